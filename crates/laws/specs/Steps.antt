@@ -1,0 +1,6 @@
+-- "For k = 0 to n - 1" of document 01: what x is after step 0, step 1, up to step n - 1.
+use Prim.Native.Nat.{ℕ, zero, suc}
+
+unfoldable pub steps : {A : Type 0} → (ℕ → A → A) → A → ℕ → A
+steps f x zero = x
+steps f x (suc k) = f k (steps f x k)
