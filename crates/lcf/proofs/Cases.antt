@@ -1,0 +1,58 @@
+-- Cases A to I of document 01, one computed statement over the definitions, I at both limits, with round counts.
+use mathlib.Core.Path.{_≡_, refl}
+use mathlib.Core.List.{List, [], _∷_, _++_}
+use Prim.Native.Nat.{ℕ}
+use lib.Bits.{bitOr}
+use lib.Count.{ones}
+use lib.ListN.{replicate, take}
+use Rattle.laws.specs.Steps.{steps}
+use Rattle.lcf.specs.Heard.{clearers, present, counted}
+use Rattle.lcf.specs.Choice.{choice}
+use Rattle.lcf.specs.Join.{join, joinLive}
+use Rattle.lcf.specs.Planned.{planner, give, planned}
+use Rattle.lcf.specs.Central.{fewest, winner, serve}
+use Rattle.lcf.specs.Distributed.{askers, grants, offers, accepted, answer, round, oneMore, distributed}
+use Rattle.lcf.specs.Advance.{advance}
+use Rattle.lcf.specs.Slot.{within, start, serveMode, matched, behind, wrongLimit, dueNumber, declined, ended, slotOnTables}
+use Rattle.lcf.specs.declared.state.State.{State}
+use Rattle.lcf.specs.declared.state.Mode.{Mode}
+use Rattle.lcf.specs.declared.state.Mode.the-variants.{Central, Distributed}
+
+-- the number, the rounds and the sets of n initiators, at offsets (i, j)
+shown : ℕ → ℕ → ℕ → Mode → List ℕ → List ℕ → List ℕ
+shown n i j mode req pre =
+    let st : State = record { ports = n; initiator = record { 0 = i }; target = record { 0 = j }; due = 7 } in
+    let a = slotOnTables 16 st 7 mode (req ++ replicate 12 0) (pre ++ replicate 12 0) .answer in
+    a .number ∷ a .rounds ∷ take n (a .sets)
+
+none : List ℕ
+none = 0 ∷ 0 ∷ 0 ∷ 0 ∷ []
+
+cases : List (List ℕ)
+cases =
+    shown 1 0 0 Central (1 ∷ 0 ∷ 0 ∷ 0 ∷ []) none
+    ∷ shown 3 0 0 Central (3 ∷ 1 ∷ 6 ∷ 0 ∷ []) none
+    ∷ shown 3 2 0 Central (3 ∷ 1 ∷ 6 ∷ 0 ∷ []) none
+    ∷ shown 3 1 2 Central (5 ∷ 0 ∷ 6 ∷ 0 ∷ []) none
+    ∷ shown 3 0 0 Central (0 ∷ 3 ∷ 0 ∷ 0 ∷ []) none
+    ∷ shown 4 3 1 Central (9 ∷ 3 ∷ 0 ∷ 0 ∷ []) (8 ∷ 0 ∷ 0 ∷ 10 ∷ [])
+    ∷ shown 2 0 0 Central (counted 2 3 (3 ∷ 2 ∷ []) (1 ∷ 1 ∷ 0 ∷ 0 ∷ [])) none
+    ∷ shown 3 0 0 (Distributed 1) (3 ∷ 1 ∷ 6 ∷ 0 ∷ []) none
+    ∷ shown 3 2 0 (Distributed 1) (3 ∷ 7 ∷ 4 ∷ 0 ∷ []) none
+    ∷ shown 3 2 0 (Distributed 2) (3 ∷ 7 ∷ 4 ∷ 0 ∷ []) none
+    ∷ []
+
+worked : cases ≡
+    (0 ∷ 0 ∷ 1 ∷ [])
+    ∷ (0 ∷ 0 ∷ 1 ∷ 0 ∷ 2 ∷ [])
+    ∷ (0 ∷ 0 ∷ 2 ∷ 1 ∷ 4 ∷ [])
+    ∷ (0 ∷ 0 ∷ 1 ∷ 0 ∷ 4 ∷ [])
+    ∷ (0 ∷ 0 ∷ 0 ∷ 1 ∷ 0 ∷ [])
+    ∷ (0 ∷ 0 ∷ 1 ∷ 0 ∷ 0 ∷ 10 ∷ [])
+    ∷ (0 ∷ 0 ∷ 0 ∷ 1 ∷ [])
+    ∷ (0 ∷ 1 ∷ 1 ∷ 0 ∷ 4 ∷ [])
+    ∷ (0 ∷ 1 ∷ 2 ∷ 0 ∷ 4 ∷ [])
+    ∷ (0 ∷ 2 ∷ 2 ∷ 1 ∷ 4 ∷ [])
+    ∷ []
+unfolding cases none shown steps ones clearers present counted choice join joinLive planner give planned fewest winner serve askers grants offers accepted answer round oneMore distributed advance within start serveMode matched behind wrongLimit dueNumber declined ended slotOnTables
+worked = refl

@@ -1,0 +1,10 @@
+-- Rule 7, the advance; and a fresh state.
+use Prim.Native.Nat.{ℕ, _+_, _%_, _^_}
+use mathlib.Core.Bool.{cond, _||_}
+use lib.Dec.{eqb, ltb}
+use Rattle.lcf.specs.declared.state.State.{State}
+
+unfoldable pub advance : State → State
+advance st =
+    let i = (st .initiator .0 + 1) % st .ports in
+    record { ports = st .ports; initiator = record { 0 = i }; target = record { 0 = cond (eqb i 0) ((st .target .0 + 1) % st .ports) (st .target .0) }; due = (st .due + 1) % 2 ^ 32 }

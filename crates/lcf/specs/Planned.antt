@@ -1,0 +1,25 @@
+-- Rules 3 and 4, the planned stage.
+use Prim.Native.Nat.{ℕ}
+use mathlib.Core.Bool.{cond}
+use mathlib.Core.List.{List}
+use Rattle.laws.specs.Steps.{steps}
+use Rattle.laws.specs.Sets.{has, asks, column}
+use Rattle.lcf.specs.Choice.{turned, choice}
+use Rattle.lcf.specs.Join.{join}
+use Rattle.lcf.specs.declared.state.State.{State}
+use Rattle.lcf.specs.declared.work.Work.{Work}
+
+-- rule 3: the first claimant of target t in the rotation that starts at (I + t - J) mod n
+unfoldable pub planner : State → List ℕ → ℕ → ℕ
+planner st pre t = choice (has (column pre (st .ports) t)) (λ i. 0) (st .ports) (turned (st .ports) (st .initiator .0) t (st .target .0))
+
+-- rules 3 and 4: target t is given to it, if it has a claimant, and both leave the slot
+unfoldable pub give : State → List ℕ → ℕ → Work → Work
+give st pre t s = cond (asks pre (planner st pre t) t) (join s (planner st pre t) t) s
+
+-- every target is given
+abbrev pub given : State → List ℕ → Work → ℕ → Work
+given st pre = steps (give st pre)
+
+unfoldable pub planned : State → List ℕ → Work → Work
+planned st pre s = given st pre s (st .ports)

@@ -1,0 +1,10 @@
+// The Least Choice First scheduler on tables: rules 3 to 7 of document 01.
+mod state;
+mod work;
+
+pub use state::Initiator;
+pub use state::Mode;
+pub use state::State;
+pub use state::Target;
+pub use work::Answer;
+pub use work::Stepped;

@@ -1,0 +1,32 @@
+// What a slot works on, and what it answers.
+use crate::state::State;
+
+// The live requests and the targets held, a row for each initiator.
+pub struct Work {
+    pub live: [u16; State::MOST],
+    pub held: [u16; State::MOST],
+}
+
+// A round of the distributed form as it goes, and whether it has joined a pair.
+pub struct Round {
+    pub work: Work,
+    pub joined: bool,
+}
+
+// Rounds so far; stuck is a round with a live request that joined nobody.
+pub struct Run {
+    pub work: Work,
+    pub rounds: u32,
+    pub stuck: bool,
+}
+
+pub struct Answer {
+    pub number: u8,
+    pub rounds: u32,
+    pub sets: [u16; State::MOST],
+}
+
+pub struct Stepped {
+    pub state: State,
+    pub answer: Answer,
+}
