@@ -1,2 +1,4 @@
 pub mod Steps
 pub mod Sets
+pub mod Parts
+pub mod Bytes
