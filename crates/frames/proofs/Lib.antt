@@ -1,1 +1,4 @@
 pub mod CheckLaws
+pub mod FrameLaws
+pub mod ConfigLaws
+pub mod GrantLaws

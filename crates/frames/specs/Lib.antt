@@ -1,1 +1,5 @@
 pub mod Check
+pub mod Frame
+pub mod Config
+pub mod Grant
+pub mod Part

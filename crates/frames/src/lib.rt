@@ -1,4 +1,19 @@
 // The frames of document 01: their check, their readers and writers, and a host's part of a slot block.
 mod check;
+mod config;
+mod frame;
+mod grant;
+mod part;
+mod word;
 
 pub use check::crc;
+pub use config::Config;
+pub use config::ConfigRead;
+pub use config::read_config;
+pub use config::write_config;
+pub use grant::Grant;
+pub use grant::GrantRead;
+pub use grant::read_grant;
+pub use grant::write_grant;
+pub use part::Ports;
+pub use part::host_frame;

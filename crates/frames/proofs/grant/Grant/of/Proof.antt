@@ -1,0 +1,20 @@
+-- `frames::grant::Grant::of` meets its contract.
+use Rattle.frames.specs.Grant.{grantOf}
+use borrow.Author.Needs.{needs}
+use Rattle.frames.proofs.grant.Grant.of.Statement.{statement}
+use Rattle.frames.proofs.grant.Grant.of.Tie as tie
+
+returns : tie.Need-returns
+unfolding grantOf
+returns c = cc
+
+pub of-spec : {M : Type 1} → statement M
+of-spec =
+    tie.close
+    (tie.spec
+    (λ c. search needs)
+    (λ c. search needs)
+    (λ c κs. search needs)
+    (λ c κs. search needs)
+    (λ c κs. search needs)
+    returns)

@@ -1,0 +1,127 @@
+// The grant frame.
+ghost use mathlib.Core.Path.{_≡_};
+ghost use Prim.Native.Nat.{_-_, _≤_, _<_};
+ghost use lib.ListN.{length};
+ghost use Rattle.laws.specs.Sets.{has};
+ghost use mathlib.Core.Bool.{cond};
+ghost use Rattle.frames.specs.Frame.{answered};
+ghost use Rattle.frames.specs.Grant.{grantLen, agrees, inForm, bit, grantFrame, grantOf, bodyInForm, noGrant, grantAnswer, readGrant, writeGrant, grantOutput};
+use crate::frame::Form;
+use crate::frame::open;
+use crate::frame::put;
+use crate::frame::seal;
+
+// Document 01's nodeId, gnt, gntVal, linkErr and CRCErr.
+pub struct Grant {
+    pub nodeid: u8,
+    pub gnt: u8,
+    pub gntval: bool,
+    pub linkerr: bool,
+    pub crcerr: bool,
+}
+
+// What reading a grant frame answers.
+pub enum GrantRead {
+    Frame(Grant),
+    WrongLength,
+    WrongType,
+    WrongCheck,
+    WrongForm,
+}
+
+fn bit(b: bool) -> u8
+    ensures { λ r. ⌜ (r ≡ bit b) × (r ≤ 1) ⌝ }
+{
+    if b { 1 } else { 0 }
+}
+
+fn flag(flags: u8, k: u8) -> bool
+    requires { ⌜ k < 8 ⌝ }
+    ensures { λ r. ⌜ r ≡ has flags k ⌝ }
+{
+    (flags >> k) % 2 == 1
+}
+
+impl Grant {
+    const TYPE: u8 = 2;
+
+    pub const LEN: usize = 5;
+    // The bytes between type and check.
+    pub const PART: usize = Grant::LEN - 3;
+
+    fn agrees(self) -> bool
+        ensures { λ r. ⌜ r ≡ agrees self ⌝ }
+    {
+        self.gntval | (self.gnt == 0)
+    }
+
+    fn in_form(self) -> bool
+        ensures { λ r. ⌜ r ≡ inForm self ⌝ }
+    {
+        (self.nodeid <= 15) & ((self.gnt <= 15) & self.agrees())
+    }
+
+    fn frame(self) -> [u8; Grant::LEN]
+        requires { ⌜ (self .nodeid ≤ 15) × (self .gnt ≤ 15) ⌝ }
+        ensures { λ r. ⌜ r ≡ grantFrame self ⌝ }
+    {
+        let mut frame = [
+            Grant::TYPE,
+            self.nodeid * 16 + self.gnt,
+            bit(self.gntval) + 2 * bit(self.linkerr) + 4 * bit(self.crcerr),
+            0,
+            0,
+        ];
+        seal(&mut frame);
+        frame
+    }
+
+    fn of(body: &[u8]) -> Grant
+        requires { ⌜ length (now body) ≡ grantLen - 3 ⌝ }
+        ensures { λ r. ⌜ r ≡ grantOf (now (body .entry)) ⌝ }
+    {
+        let numbers = body[0];
+        let flags = body[1];
+        Grant {
+            nodeid: numbers / 16,
+            gnt: numbers % 16,
+            gntval: flag(flags, 0),
+            linkerr: flag(flags, 1),
+            crcerr: flag(flags, 2),
+        }
+    }
+}
+
+// A grant of a body that is in form.
+fn grant_of(body: &[u8]) -> GrantRead
+    requires { ⌜ length (now body) ≡ grantLen - 3 ⌝ }
+    ensures { λ r. ⌜ grantAnswer r ≡ answered (cond (bodyInForm (now (body .entry))) 0 11) (grantOf (now (body .entry))) noGrant ⌝ }
+{
+    let g = Grant::of(body);
+    if (body[1] <= 7) & g.agrees() {
+        return GrantRead::Frame(g);
+    }
+    GrantRead::WrongForm
+}
+
+pub fn read_grant(frame: &[u8]) -> GrantRead
+    ensures { λ r. ⌜ grantAnswer r ≡ readGrant (now (frame .entry)) ⌝ }
+{
+    let opened = open(frame, Grant::LEN, Grant::TYPE);
+    match opened {
+        Form::WrongLength => GrantRead::WrongLength,
+        Form::WrongType => GrantRead::WrongType,
+        Form::WrongCheck => GrantRead::WrongCheck,
+        Form::Sound => grant_of(&frame[1..1 + Grant::PART]),
+    }
+}
+
+pub fn write_grant(g: Grant, out: &mut [u8]) -> u8
+    ensures { λ r. ⌜ (r ≡ writeGrant g (now (out .entry))) × (now (out .exit) ≡ grantOutput g (now (out .entry))) ⌝ }
+{
+    if g.in_form() {
+        let frame = g.frame();
+        return put(&frame, out);
+    }
+    11
+}
