@@ -1,7 +1,10 @@
 // The Least Choice First scheduler on tables: rules 3 to 7 of document 01.
+mod choice;
+mod sets;
 mod state;
 mod work;
 
+pub use state::Fresh;
 pub use state::Initiator;
 pub use state::Mode;
 pub use state::State;

@@ -1,0 +1,4 @@
+pub mod Loops
+pub mod Branches
+pub mod Words
+pub mod Rows
