@@ -52,5 +52,17 @@ each-row f rows m k p e h g = done _ _ m k e h g ∙ ext-getD 0 _ _ (length-tabl
     same : (i : ℕ) → i < length (tabled m (λ i. f (getD rows i 0)) m) → getD (tabled m (λ i. f (getD rows i 0)) m) i 0 ≡ getD (map f rows) i 0
     same i l = row-tabled m _ m i (rw length-tabled at l) (omega arith) ∙ sym (row-map f rows i (omega (arith, length-tabled m (λ i. f (getD rows i 0)) m)))
 
+-- tables of equal rows
+pub same-rows : (m n : ℕ) (f g : ℕ → ℕ) → ((k : ℕ) → k < n → f k ≡ g k) → tabled m f n ≡ tabled m g n
+unfolding steps
+same-rows m zero f g h = refl
+same-rows m (suc n) f g h = rw (same-rows m n f g (λ k l. h k (omega arith)), h n (omega arith))
+
+-- the empty table
+pub no-bits : (m k : ℕ) → _≡_ {A = ℕ} (getD (replicate m 0) k 0) 0
+no-bits zero k = refl
+no-bits (suc m) zero = refl
+no-bits (suc m) (suc k) = no-bits m k
+
 -- what `search` needs at a loop whose invariant is such an equation
 pub ruleset rows = (needs, no-row, next-row, all-rows, each-row)

@@ -5,8 +5,10 @@ use Prim.Native.Nat.{ℕ, zero, suc, _+_, _-_, _%_, _^_, _<_, _≤_}
 use native.Mathlib.Nat.{mod-eq-of-lt, add-mod-right, mod-add-mod, zero-div}
 use native.Mathlib.Omega.{arith}
 use lib.Dec.{eqb}
+use lib.ListN.{getD, replicate}
 use Rattle.laws.specs.Steps.{steps}
 use Rattle.laws.specs.Sets.{has}
+use Rattle.laws.proofs.Rows.{no-bits}
 use Rattle.lcf.specs.Choice.{place, turned, better, chosen, choice}
 
 -- x modulo n, of an x from n up to below twice n
@@ -29,3 +31,7 @@ module _ (p : ℕ → Bool) (f : ℕ → ℕ) (n a : ℕ) where
 
 pub nobody : (s : ℕ) (f : ℕ → ℕ) (n a : ℕ) → s ≡ 0 → a ≡ choice (has s) f n a
 nobody s f n a e = none-has (has s) f n a (λ k. rw e (ap (λ d. eqb (d % 2) 1) (zero-div (2 ^ place n a k))))
+
+-- where the numbers are all 0, the first with p is chosen
+pub first : (m s : ℕ) (n : ℕ) {u a b r : ℕ} → u ≡ s → b ≡ a → r ≡ choice (has u) (λ x. getD (replicate m 0) x 0) n b → r ≡ choice (has s) (λ x. 0) n a
+first m s n {u} {a} p q e = e ∙ rw (p, q) (ap (λ f. choice (has s) f n a) (λ i x. no-bits m x i))

@@ -1,5 +1,9 @@
 // The Least Choice First scheduler on tables: rules 3 to 7 of document 01.
+mod central;
 mod choice;
+mod distributed;
+mod join;
+mod planned;
 mod sets;
 mod state;
 mod work;

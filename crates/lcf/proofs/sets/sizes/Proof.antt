@@ -2,7 +2,7 @@ use Rattle.laws.proofs.Rows.{rows}
 use mathlib.Core.Path.{_≡_}
 use Prim.Native.Nat.{_≤_, _-_}
 use lib.Count.{ones}
-use lib.ListN.{getD, length}
+use lib.ListN.{getD}
 use Rattle.laws.specs.Sets.{tabled}
 use Rattle.lcf.proofs.sets.sizes.Statement.{statement}
 use Rattle.lcf.proofs.sets.sizes.Tie as tie
