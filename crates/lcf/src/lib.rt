@@ -5,9 +5,12 @@ mod distributed;
 mod join;
 mod planned;
 mod sets;
+mod slot;
 mod state;
 mod work;
 
+pub use slot::due_number;
+pub use slot::slot_on_tables;
 pub use state::Fresh;
 pub use state::Initiator;
 pub use state::Mode;
