@@ -1,4 +1,7 @@
 pub mod Branches
-pub mod Parts
 pub mod Bytes
+pub mod Loops
+pub mod Parts
+pub mod Rows
 pub mod Unique
+pub mod Words

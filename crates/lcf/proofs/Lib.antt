@@ -1,1 +1,4 @@
 pub mod Cases
+pub mod Choices
+pub mod Rounds
+pub mod Slots

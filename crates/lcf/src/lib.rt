@@ -1,7 +1,17 @@
 // The Least Choice First scheduler on tables: rules 3 to 7 of document 01.
+mod central;
+mod choice;
+mod distributed;
+mod join;
+mod planned;
+mod sets;
+mod slot;
 mod state;
 mod work;
 
+pub use slot::due_number;
+pub use slot::slot_on_tables;
+pub use state::Fresh;
 pub use state::Initiator;
 pub use state::Mode;
 pub use state::State;

@@ -1,4 +1,7 @@
 // The state of a shelf, and the mode of a slot.
+ghost use mathlib.Core.Path.{_≡_};
+ghost use lib.ListN.{replicate};
+ghost use Rattle.lcf.specs.Ready.{fresh};
 
 // The report's requester index.
 pub struct Initiator(pub usize);
@@ -20,7 +23,44 @@ pub enum Mode {
     Distributed(u32),
 }
 
+// A fresh state, or number 1 and a state of zeros.
+pub struct Fresh {
+    pub number: u8,
+    pub state: State,
+}
+
 impl State {
     // The greatest port count.
     pub const MOST: usize = 16;
+
+    pub fn fresh(ports: usize, due: u32) -> Fresh
+        ensures { λ r. do ⌜ r ≡ fresh (← ⟦State::MOST⟧ .entry) ports due ⌝ }
+    {
+        if (ports < 1) | (State::MOST < ports) {
+            return Fresh {
+                number: 1,
+                state: State {
+                    ports: 0,
+                    initiator: Initiator(0),
+                    target: Target(0),
+                    due: 0,
+                },
+            };
+        }
+        Fresh {
+            number: 0,
+            state: State {
+                ports,
+                initiator: Initiator(0),
+                target: Target(0),
+                due,
+            },
+        }
+    }
+
+    pub fn empty_table() -> [u16; State::MOST]
+        ensures { λ r. do ⌜ r ≡ replicate (← ⟦State::MOST⟧ .entry) 0 ⌝ }
+    {
+        [0; State::MOST]
+    }
 }

@@ -1,0 +1,13 @@
+use borrow.Author.Needs.{needs}
+use Rattle.lcf.specs.Distributed.{accepted, answer}
+use Rattle.lcf.proofs.distributed.answer.Statement.{statement}
+use Rattle.lcf.proofs.distributed.answer.Tie as tie
+
+pub answer-spec : {M : Type 1} → statement M
+unfolding answer accepted
+answer-spec =
+    tie.close
+    (tie.spec (λ c κs. search needs) (λ c κs. search needs) (λ c κs. search needs) (λ c κs. search needs)
+    (λ c κs. search needs)
+    (λ c. rw (← c .before .before .before .before .before .before .offers .ensures, ← c .before .before .before .before .before .first-target .ensures .0, ← c .before .before .before .before .before .before .before .pre .2, ← c .before .before .before .before .choose .ensures .0, ← c .before .before .before .holds .ensures, c .before .before .if1 .taken, ← c .join .ensures))
+    (λ c. rw (← c .before .before .before .before .offers .ensures, ← c .before .before .before .first-target .ensures .0, ← c .before .before .before .before .before .pre .2, ← c .before .before .choose .ensures .0, ← c .before .holds .ensures, c .if1 .left)))

@@ -1,0 +1,22 @@
+use borrow.Author.Needs.{needs}
+use Rattle.laws.proofs.Loops.{loop}
+use mathlib.Core.Path.{_≡_}
+use Prim.Native.Nat.{_≤_, _-_}
+use Rattle.laws.proofs.Loops.{done}
+use Rattle.lcf.specs.Distributed.{rounds, distributed}
+use Rattle.lcf.proofs.distributed.distributed.Statement.{statement}
+use Rattle.lcf.proofs.distributed.distributed.Tie as tie
+
+abbrev Inv-loop : tie.InvT-loop
+Inv-loop state limit run₀ k₀ run k = (k ≤ limit) × (run ≡ rounds state run₀ k) × (run .rounds ≤ k)
+
+abbrev μ-loop : tie.MeasureT-loop
+μ-loop state limit run₀ k₀ run k = limit - k
+
+pub distributed-spec : {M : Type 1} → statement M
+unfolding distributed
+distributed-spec =
+    tie.close
+    (tie.spec Inv-loop μ-loop (λ c κs. search loop) (λ c. search loop) (λ c κs. search loop) (λ c. search loop)
+    (λ c. search loop) (λ c. search loop)
+    (λ c. rw (← c .before .before .join-live .ensures) (done _ _ _ _ (c .before .loop .inv .1) (search needs) (search needs))))

@@ -1,0 +1,12 @@
+use borrow.Author.Needs.{needs}
+use Rattle.lcf.specs.Distributed.{oneMore}
+use Rattle.lcf.proofs.distributed.one_more.Statement.{statement}
+use Rattle.lcf.proofs.distributed.one_more.Tie as tie
+
+pub one-more-spec : {M : Type 1} → statement M
+unfolding oneMore
+one-more-spec =
+    tie.close
+    (tie.spec (λ c κs. search needs) (λ c κs. search needs) (λ c. search needs)
+    (λ c. (rw (← c .before .before .before .before .before .before .any-live .ensures, c .before .before .before .before .if1 .taken, ← c .before .before .before .round .ensures), search needs))
+    (λ c. (rw (← c .before .before .any-live .ensures, c .if1 .left), search needs)))

@@ -1,0 +1,12 @@
+use borrow.Author.Needs.{needs}
+use Rattle.lcf.specs.Planned.{planner}
+use Rattle.lcf.proofs.Choices.{first}
+use Rattle.lcf.proofs.planned.planner.Statement.{statement}
+use Rattle.lcf.proofs.planned.planner.Tie as tie
+
+pub planner-spec : {M : Type 1} → statement M
+unfolding planner
+planner-spec =
+    tie.close
+    (tie.spec (λ c κs. search needs) (λ c κs. search needs) (λ c κs. search needs)
+    (λ c. (first 16 _ _ (c .before .column .ensures) (c .before .before .first-initiator .ensures .0) (c .choose .ensures .0), search needs)))

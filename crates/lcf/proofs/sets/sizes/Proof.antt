@@ -1,0 +1,20 @@
+use Rattle.laws.proofs.Rows.{rows}
+use mathlib.Core.Path.{_≡_}
+use Prim.Native.Nat.{_≤_, _-_}
+use lib.Count.{ones}
+use lib.ListN.{getD}
+use Rattle.laws.specs.Sets.{tabled}
+use Rattle.lcf.proofs.sets.sizes.Statement.{statement}
+use Rattle.lcf.proofs.sets.sizes.Tie as tie
+
+abbrev Inv-loop : tie.InvT-loop
+Inv-loop rows counts₀ i₀ counts i = (i ≤ 16) × (counts ≡ tabled 16 (λ k. ones (getD rows k 0)) i)
+
+abbrev μ-loop : tie.MeasureT-loop
+μ-loop rows counts₀ i₀ counts i = 16 - i
+
+pub sizes-spec : {M : Type 1} → statement M
+sizes-spec =
+    tie.close
+    (tie.spec Inv-loop μ-loop (λ c. search rows) (λ c. search rows) (λ c. search rows) (λ c. search rows) (λ c. search rows)
+    (λ c. search rows) (λ c. search rows) (λ c. search rows) (λ c. search rows))

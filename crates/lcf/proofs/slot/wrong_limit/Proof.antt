@@ -1,0 +1,12 @@
+use borrow.Author.Needs.{needs}
+use mathlib.Core.Path.{sym, ap}
+use Rattle.lcf.specs.Slot.{wrongLimit}
+use Rattle.lcf.proofs.slot.wrong_limit.Statement.{statement}
+use Rattle.lcf.proofs.slot.wrong_limit.Tie as tie
+
+pub wrong-limit-spec : {M : Type 1} → statement M
+unfolding wrongLimit
+wrong-limit-spec =
+    tie.close
+    (tie.spec (λ c. search needs) (λ c. search needs) (λ c. sym (ap (wrongLimit 16) (c .enum-told .given .1)))
+    (λ c. sym (ap (wrongLimit 16) (c .before .mode .given .1))))

@@ -1,0 +1,76 @@
+// The choice of rules 3, 5 and 6, and where its rotation starts.
+use crate::sets::holds;
+use crate::state::Initiator;
+use crate::state::State;
+use crate::state::Target;
+ghost use mathlib.Core.Path.{_≡_};
+ghost use Prim.Native.Nat.{_+_, _%_, _<_, _≤_};
+ghost use lib.ListN.{getD};
+ghost use Rattle.laws.specs.Sets.{has};
+ghost use Rattle.lcf.specs.Ready.{Ready};
+ghost use Rattle.lcf.specs.Choice.{place, turned, better, choice};
+
+// No division: x is below twice n.
+pub(crate) fn wrapped(x: usize, n: usize) -> usize
+    requires { ⌜ x < n + n ⌝ }
+    ensures { λ r. ⌜ (r ≡ x % n) × (r < n) ⌝ }
+{
+    if x < n { x } else { x - n }
+}
+
+// (from + x - y) mod n.
+fn turned(n: usize, from: usize, x: usize, y: usize) -> usize
+    requires { ⌜ (n ≤ 16) × (from < n) × (x < n) × (y < n) ⌝ }
+    ensures { λ r. ⌜ (r ≡ turned n from x y) × (r < n) ⌝ }
+{
+    wrapped(wrapped(from + n - y, n) + x, n)
+}
+
+// Where target t's rotation of the initiators starts.
+pub(crate) fn first_initiator(state: State, t: Target) -> Initiator
+    requires { ⌜ (Ready 16 state) × (t .0 < state .ports) ⌝ }
+    ensures { λ r. ⌜ (r .0 ≡ turned (state .ports) (state .initiator .0) (t .0) (state .target .0)) × (r .0 < state .ports) ⌝ }
+{
+    Initiator(turned(state.ports, state.initiator.0, t.0, state.target.0))
+}
+
+// Where initiator i's rotation of the targets starts.
+pub(crate) fn first_target(state: State, i: Initiator) -> Target
+    requires { ⌜ (Ready 16 state) × (i .0 < state .ports) ⌝ }
+    ensures { λ r. ⌜ (r .0 ≡ turned (state .ports) (state .target .0) (i .0) (state .initiator .0)) × (r .0 < state .ports) ⌝ }
+{
+    Target(turned(state.ports, state.target.0, i.0, state.initiator.0))
+}
+
+fn contend(
+    among: u16,
+    numbers: [u32; State::MOST],
+    n: usize,
+    from: usize,
+    k: usize,
+    best: usize,
+) -> usize
+    requires { ⌜ (n ≤ 16) × (from < n) × (k < n) × (best < n) ⌝ }
+    ensures { λ r. ⌜ (r ≡ better (has among) (λ x. getD numbers x 0) (place n from k) best) × (r < n) ⌝ }
+{
+    let x = wrapped(from + k, n);
+    if holds(among, x) & (!holds(among, best) | (numbers[x] < numbers[best])) {
+        x
+    } else {
+        best
+    }
+}
+
+pub(crate) fn choose(among: u16, numbers: [u32; State::MOST], n: usize, from: usize) -> usize
+    requires { ⌜ (n ≤ 16) × (from < n) ⌝ }
+    ensures { λ r. ⌜ (r ≡ choice (has among) (λ x. getD numbers x 0) n from) × (r < n) ⌝ }
+{
+    if among == 0 {
+        return from;
+    }
+    let mut best = from;
+    for k in 0..n {
+        best = contend(among, numbers, n, from, k, best);
+    }
+    best
+}

@@ -1,0 +1,51 @@
+// How a pair is joined: its row and its column stop being live.
+use crate::sets::clear;
+use crate::sets::holds;
+use crate::sets::put;
+use crate::state::Initiator;
+use crate::state::State;
+use crate::state::Target;
+use crate::work::Work;
+ghost use mathlib.Core.Path.{_≡_};
+ghost use mathlib.Core.List.{map};
+ghost use Prim.Native.Nat.{_<_};
+ghost use Rattle.laws.specs.Sets.{without};
+ghost use Rattle.lcf.specs.Join.{join, joinLive};
+
+fn clear_column(rows: [u16; State::MOST], t: Target) -> [u16; State::MOST]
+    requires { ⌜ t .0 < 16 ⌝ }
+    ensures { λ r. ⌜ r ≡ map (λ row. without row (t .0)) rows ⌝ }
+{
+    let mut left = State::empty_table();
+    for i in 0..State::MOST {
+        left[i] = clear(rows[i], t.0);
+    }
+    left
+}
+
+pub(crate) fn join(work: Work, i: Initiator, t: Target) -> Work
+    requires { ⌜ (i .0 < 16) × (t .0 < 16) ⌝ }
+    ensures { λ r. ⌜ r ≡ join work (i .0) (t .0) ⌝ }
+{
+    let at = i.0;
+    let mut live = work.live;
+    let mut held = work.held;
+    live[at] = 0;
+    held[at] = put(held[at], t.0);
+    Work {
+        live: clear_column(live, t),
+        held,
+    }
+}
+
+pub(crate) fn join_live(work: Work, i: Initiator, t: Target) -> Work
+    requires { ⌜ (i .0 < 16) × (t .0 < 16) ⌝ }
+    ensures { λ r. ⌜ r ≡ joinLive work (i .0) (t .0) ⌝ }
+{
+    let at = i.0;
+    if holds(work.live[at], t.0) {
+        join(work, i, t)
+    } else {
+        work
+    }
+}

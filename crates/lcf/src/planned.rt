@@ -1,0 +1,53 @@
+// Rules 3 and 4, the planned stage.
+use crate::choice::choose;
+use crate::choice::first_initiator;
+use crate::join::join;
+use crate::sets::column;
+use crate::sets::holds;
+use crate::state::Initiator;
+use crate::state::State;
+use crate::state::Target;
+use crate::work::Work;
+ghost use mathlib.Core.Path.{_≡_};
+ghost use Prim.Native.Nat.{_<_};
+ghost use Rattle.lcf.specs.Ready.{Ready};
+ghost use Rattle.lcf.specs.Planned.{planner, give, planned};
+
+// Every claimant counts as equal, so the first in the rotation is chosen.
+fn planner(state: State, pre: [u16; State::MOST], t: Target) -> Initiator
+    requires { ⌜ (Ready 16 state) × (t .0 < state .ports) ⌝ }
+    ensures { λ r. ⌜ (r .0 ≡ planner state pre (t .0)) × (r .0 < state .ports) ⌝ }
+{
+    let from = first_initiator(state, t);
+    Initiator(choose(
+        column(pre, state.ports, t),
+        [0; State::MOST],
+        state.ports,
+        from.0,
+    ))
+}
+
+fn give(state: State, pre: [u16; State::MOST], t: Target, work: Work) -> Work
+    requires { ⌜ (Ready 16 state) × (t .0 < state .ports) ⌝ }
+    ensures { λ r. ⌜ r ≡ give state pre (t .0) work ⌝ }
+{
+    let i = planner(state, pre, t);
+    let at = i.0;
+    if holds(pre[at], t.0) {
+        join(work, i, t)
+    } else {
+        work
+    }
+}
+
+pub(crate) fn planned(state: State, pre: [u16; State::MOST], work: Work) -> Work
+    requires { ⌜ Ready 16 state ⌝ }
+    ensures { λ r. ⌜ r ≡ planned state pre work ⌝ }
+{
+    let n = state.ports;
+    let mut now = work;
+    for t in 0..n {
+        now = give(state, pre, Target(t), now);
+    }
+    now
+}
