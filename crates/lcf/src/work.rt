@@ -16,13 +16,13 @@ pub struct Round {
 // Rounds so far; stuck is a round with a live request that joined nobody.
 pub struct Run {
     pub work: Work,
-    pub rounds: u32,
+    pub rounds: u8,
     pub stuck: bool,
 }
 
 pub struct Answer {
     pub number: u8,
-    pub rounds: u32,
+    pub rounds: u8,
     pub sets: [u16; State::MOST],
 }
 
