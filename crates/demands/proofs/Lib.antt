@@ -1,0 +1,5 @@
+pub mod Join
+pub mod Keeps
+pub mod Stage
+pub mod Lawful
+pub mod Calls
