@@ -115,6 +115,9 @@ module _ (p : ℕ → Bool) where
 pub gathered-same : (p q : ℕ → Bool) (n : ℕ) → ((k : ℕ) → k < n → p k ≡ q k) → gathered p n ≡ gathered q n
 gathered-same p q n h = steps-same _ _ 0 n (λ k s l. ap (λ b. cond b (with s k) s) (h k l))
 
+pub gathered-none : (p : ℕ → Bool) (n : ℕ) → ((k : ℕ) → k < n → p k ≡ false) → gathered p n ≡ 0
+gathered-none p n h = kept _ 0 (λ k s. s ≡ 0) n (λ k s l e. rw (h k l) e) refl
+
 -- ---- the pairs of a table
 
 -- a row that is set, or the row as it was
