@@ -7,7 +7,7 @@ use Prim.Native.Nat.{ℕ, _^_, _≤_, _<_}
 use native.Mathlib.Omega.{arith}
 use lib.Dec.{eqb, ltb, leb}
 use lib.ListN.{replicate}
-use borrow.Author.Tests.{eqb-true, eqb-false, ltb-true, ltb-false, leb-true, leb-false, lt-ltb, le-ltb, le-leb, lt-leb}
+use borrow.Author.Tests.{eqb-true, eqb-false, ltb-true, ltb-false, leb-true, leb-false, le-ltb, lt-leb}
 use Rattle.laws.proofs.Tests.{arms}
 use Rattle.lcf.specs.Advance.{advance}
 use Rattle.lcf.specs.Slot.{matched, behind, wrongLimit, dueNumber, declined, ended, slotOnTables}
@@ -64,7 +64,7 @@ module _ (m : ℕ) (st : State) (c : Call) where
   -- with the state in order, it is one of the later numbers
   pub ordered : InOrder m st → (x : ℕ) → cond (leb 1 late && leb late (2 ^ 31)) 3 (cond (ltb (2 ^ 31) late) 4 (cond (wrongLimit m (c .mode)) 5 0)) ≡ x → due ≡ x
   unfolding dueNumber
-  ordered o x e = rw (le-ltb (st .ports) 1 (o .some-port), le-ltb m (st .ports) (o .most-ports), lt-leb (st .ports) (st .initiator .0) (o .initiator), lt-leb (st .ports) (st .target .0) (o .target)) e
+  ordered o x e = rw (le-ltb (st .ports) 1 (o .some-port), le-ltb m (st .ports) (o .most-ports), lt-leb (st .ports) (st .initiator .0) (o .offsets .initiator), lt-leb (st .ports) (st .target .0) (o .offsets .target)) e
 
   -- ---- the call
 

@@ -29,6 +29,6 @@ module _ (m : ℕ) (st : State) where
   -- An initiator that is unheard or disabled is connected to nothing.
   pub absent-unconnected : (c : Call) (heard : ℕ) (ben : List ℕ) (i t : ℕ) → present (st .ports) heard ben i ≡ false → asks (sets m st (counting st heard ben c)) i t ≡ false
   absent-unconnected c heard ben i t absent = refuted _ (λ e. ⊎-elim
-      (λ given. true≢false (sym (counted-asks (st .ports) heard ben (c .pre) i t (given .claimed) .0) ∙ absent))
+      (λ given. true≢false (sym (counted-asks (st .ports) heard ben (c .pre) i t (given .claimant .asks-too) .0) ∙ absent))
       (λ live. true≢false (sym (counted-asks (st .ports) heard ben (c .req) i t (live .0 .asked) .0) ∙ absent))
       (nothing-from-nowhere (counting st heard ben c) i t e))

@@ -4,11 +4,10 @@ use mathlib.Core.Logic.{_↔_}
 use mathlib.Core.Bool.{Bool, true, false, not, _&&_, cond, true≢false}
 use mathlib.Core.List.{List}
 use Prim.Native.Nat.{ℕ, _<_}
-use lib.Dec.{eqb}
 use lib.ListN.{length, getD}
-use borrow.Author.Tests.{eqb-true, eq-eqb, not-true, not-false}
+use borrow.Author.Tests.{eqb-true, not-true, not-false}
 use Rattle.laws.specs.Sets.{has, asks}
-use Rattle.laws.proofs.Tests.{both, refuted, arms}
+use Rattle.laws.proofs.Tests.{both, refuted}
 use Rattle.laws.proofs.Members.{has-none, asks-row, row-tabled, tabled-asks, has-gathered, gathered-none}
 use Rattle.lcf.specs.Heard.{clearers, present, counted}
 use Rattle.demands.specs.Share.{Waits, HostWaits}

@@ -1,8 +1,8 @@
 -- What is held and what is live after a pair is joined.
 use mathlib.Core.Path.{_≡_, refl, sym, ap, _∙_}
 use mathlib.Core.Logic.{_⊎_, inl, inr, ⊎-elim, _≢_}
-use mathlib.Core.Bool.{Bool, true, false, not, _&&_, _||_, or-true, true≢false}
-use mathlib.Core.List.{List, map}
+use mathlib.Core.Bool.{true, not, _||_, or-true, true≢false}
+use mathlib.Core.List.{map}
 use Prim.Native.Nat.{ℕ, _<_}
 use native.Mathlib.Nat.{zero-sub}
 use native.Mathlib.Decide.{ℕ-discrete}
@@ -51,14 +51,14 @@ module _ (s : Work) (w c : ℕ) where
       (λ q. ⊎-elim
       (λ h. inl (ap (λ x. asks (s .held) x t) (q .0) ∙ h))
       (λ h. inr (q .0, eqb-true t c h))
-      (either (asks (s .held) w t) (eqb t c) (sym (has-with _ c t) ∙ ap (λ row. has row t) (sym (q .2)) ∙ e)))
+      (either (asks (s .held) w t) (eqb t c) (sym (has-with _ c t) ∙ ap (λ row. has row t) (sym (q .1)) ∙ e)))
       (set-row (s .held) w (with (getD (s .held) w 0) c) i)
 
   pub held-still : (i t : ℕ) → asks (s .held) i t ≡ true → asks (join s w c .held) i t ≡ true
   unfolding join
   held-still i t h = ⊎-elim
       (λ q. ap (λ row. has row t) q ∙ h)
-      (λ q. ap (λ row. has row t) (q .2) ∙ has-with _ c t ∙ ap (λ b. b || eqb t c) (ap (λ x. asks (s .held) x t) (sym (q .0)) ∙ h))
+      (λ q. ap (λ row. has row t) (q .1) ∙ has-with _ c t ∙ ap (λ b. b || eqb t c) (ap (λ x. asks (s .held) x t) (sym (q .0)) ∙ h))
       (set-row (s .held) w (with (getD (s .held) w 0) c) i)
 
   pub held-now : w < length (s .held) → asks (join s w c .held) w c ≡ true

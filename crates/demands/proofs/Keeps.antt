@@ -1,14 +1,13 @@
 -- Every mode joins pairs one after another, each live when it is joined. So what the joining of a live pair keeps, every mode keeps.
-use mathlib.Core.Path.{_≡_, refl, sym, ap, _∙_, subst}
-use mathlib.Core.Bool.{Bool, true, false, not, _&&_, cond}
+use mathlib.Core.Path.{_≡_, sym, ap, _∙_}
+use mathlib.Core.Bool.{true, false, not, _&&_}
 use mathlib.Core.List.{List}
-use Prim.Native.Nat.{ℕ, zero, suc, _%_, _≤_, _<_}
+use Prim.Native.Nat.{ℕ, suc, _%_, _≤_, _<_}
 use native.Mathlib.Nat.{add-zero, mod-eq-of-lt}
 use native.Mathlib.Omega.{arith}
 use lib.Dec.{eqb}
 use lib.ListN.{getD}
 use borrow.Author.Tests.{eqb-true}
-use Rattle.laws.specs.Steps.{steps}
 use Rattle.laws.specs.Sets.{has, asks}
 use Rattle.laws.proofs.Tests.{both, arms}
 use Rattle.laws.proofs.Steps.{kept, kept-from-first}
@@ -16,8 +15,8 @@ use Rattle.laws.proofs.Members.{gathered-has}
 use Rattle.lcf.specs.Choice.{place}
 use Rattle.lcf.specs.Join.{join, joinLive}
 use Rattle.lcf.specs.Planned.{planner, give, planned}
-use Rattle.lcf.specs.Central.{winner, serve, central}
-use Rattle.lcf.specs.Distributed.{askers, grants, offers, accepted, answer, round, anyLive, oneMore, rounds, distributed}
+use Rattle.lcf.specs.Central.{winner, serve}
+use Rattle.lcf.specs.Distributed.{grants, offers, accepted, answer, round, anyLive, oneMore, rounds, distributed}
 use Rattle.lcf.specs.Slot.{serveMode}
 use Rattle.lcf.specs.declared.state.State.{State}
 use Rattle.lcf.specs.declared.state.Mode.{Mode}
@@ -25,7 +24,8 @@ use Rattle.lcf.specs.declared.state.Mode.the-variants.{Central, Distributed}
 use Rattle.lcf.specs.declared.work.Work.{Work}
 use Rattle.lcf.specs.declared.work.Round.{Round}
 use Rattle.lcf.specs.declared.work.Run.{Run}
-use Rattle.demands.proofs.Join.{Left, live-left, left-live}
+use Rattle.demands.specs.History.{Below}
+use Rattle.demands.proofs.Join.{Left, left-live}
 
 -- a rotation begins at its start
 pub first-place : (n a : ℕ) → a < n → place n a 0 ≡ a
@@ -91,11 +91,12 @@ module _ (P : Work → Type 0) (keeps : (s : Work) (i t : ℕ) → asks (s .live
   mode-keeps (Distributed limit) s p = rounds-keep limit _ (live-keeps s _ _ p)
 
   -- every mode begins with the favoured pair (I, J), if its request is live
-  pub mode-favours : (mode : Mode) (s : Work) → st .initiator .0 < st .ports → st .target .0 < st .ports → asks (s .live) (st .initiator .0) (st .target .0) ≡ true
+  pub mode-favours : Below st → (mode : Mode) (s : Work) → asks (s .live) (st .initiator .0) (st .target .0) ≡ true
       → P (join s (st .initiator .0) (st .target .0)) → P (serveMode st mode s .work)
   unfolding serveMode distributed serve winner joinLive
-  mode-favours Central s i< t< e p = kept-from-first (serve st) s P (st .ports) (λ k u. serve-keeps k u) (rw (first-place (st .ports) (st .target .0) t<, first-place (st .ports) (st .initiator .0) i<, e, e) p) (omega arith)
-  mode-favours (Distributed limit) s i< t< e p = rounds-keep limit _ (rw e p)
+  mode-favours b Central s e p = kept-from-first (serve st) s P (st .ports) (λ k u. serve-keeps k u)
+      (rw (first-place (st .ports) (st .target .0) (b .target), first-place (st .ports) (st .initiator .0) (b .initiator), e, e) p) (omega (arith, b .target))
+  mode-favours b (Distributed limit) s e p = rounds-keep limit _ (rw e p)
 
 -- What the giving of a planned target keeps, the planned stage keeps: P t holds when the targets below t have been given.
 module _ (P : ℕ → Work → Type 0) (st : State) (pre : List ℕ) where

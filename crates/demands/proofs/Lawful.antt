@@ -11,7 +11,8 @@ use Rattle.lcf.specs.declared.state.State.{State}
 use Rattle.lcf.specs.declared.state.Mode.{Mode}
 use Rattle.lcf.specs.declared.work.Work.{Work}
 use Rattle.demands.specs.Origin.{Given, Live, Alone}
-use Rattle.demands.proofs.Join.{Left, live-left, held-cases}
+use Rattle.demands.proofs.Choice.{chosen-once}
+use Rattle.demands.proofs.Join.{live-left, held-cases}
 use Rattle.demands.proofs.Keeps.{mode-keeps}
 use Rattle.demands.proofs.Stage.{start-held, start-live}
 
@@ -49,7 +50,7 @@ module _ (st : State) (req pre : List ℕ) where
   }
 
   start-apart : Apart (start st req pre)
-  start-apart = record { settled = start-settled; once = λ i j t a b. sym (start-held st req pre i t a .planner-is) ∙ start-held st req pre j t b .planner-is }
+  start-apart = record { settled = start-settled; once = λ i j t a b. chosen-once (start-held st req pre i t a .claimant) (start-held st req pre j t b .claimant) }
 
   -- ---- nothing from nowhere
 

@@ -1,14 +1,15 @@
 -- the demands
 pub mod Share
 pub mod Connections
-pub mod Rules
 pub mod Refusal
+-- the rules
+pub mod Choice
+pub mod Rules
+pub mod Hosts
+pub mod Stage
 -- what they rest on
 pub mod Turns
-pub mod Hosts
 pub mod Lawful
-pub mod Stage
 pub mod Keeps
 pub mod Join
-pub mod Choice
 pub mod Calls

@@ -60,9 +60,7 @@ module _ (m : ℕ) (st : State) (c : Call) where
 
 advance-in-order : (m : ℕ) (st : State) → InOrder m st → InOrder m (advance st)
 advance-in-order m st o =
-    let b = advance-below st (record { initiator = o .initiator; target = o .target }) in
-    let p = advance-ports st in
-    record { some-port = rw p (o .some-port); most-ports = rw p (o .most-ports); initiator = b .initiator; target = b .target }
+    record { some-port = rw (advance-ports st) (o .some-port); most-ports = rw (advance-ports st) (o .most-ports); offsets = advance-below st (o .offsets) }
 
 one-behind : (st : State) (slot : ℕ) → st .due < 2 ^ 32 → slot ≡ st .due → behind (advance st) slot ≡ 1
 unfolding behind advance

@@ -1,9 +1,8 @@
 -- Demand 3, the share. A waiting pair is connected when it is the favoured one, so it is connected each time its turn comes.
-use mathlib.Core.Path.{_≡_, refl, sym, _∙_, subst₂}
-use mathlib.Core.Bool.{Bool, true, false, _&&_, true≢false}
+use mathlib.Core.Path.{_≡_, sym, _∙_, subst₂}
+use mathlib.Core.Bool.{true, true≢false}
 use mathlib.Core.List.{List}
 use Prim.Native.Nat.{ℕ, _*_, _/_, _≤_, _<_}
-use native.Mathlib.Omega.{arith}
 use lib.ListN.{length}
 use borrow.Author.Tests.{eqb-true, eqb-false}
 use Rattle.laws.specs.Sets.{asks}
@@ -12,17 +11,16 @@ use Rattle.lcf.specs.Slot.{start, matched}
 use Rattle.lcf.specs.declared.state.State.{State}
 use Rattle.lcf.specs.declared.state.Mode.{Mode}
 use Rattle.lcf.specs.declared.work.Work.{Work}
-use Rattle.demands.specs.Origin.{Given, Live}
-use Rattle.demands.specs.Refusal.{InOrder}
+use Rattle.demands.specs.Origin.{Live}
 use Rattle.demands.specs.Call.{Call, next, served}
-use Rattle.demands.specs.History.{howMany, InEach, Fair}
+use Rattle.demands.specs.History.{Below, howMany, InEach, Fair}
 use Rattle.demands.specs.Share.{connects, Waits, Waiting}
 use Rattle.demands.proofs.Join.{held-still, held-now}
 use Rattle.demands.proofs.Keeps.{mode-favours}
 use Rattle.demands.proofs.Stage.{start-rows, start-live}
 use Rattle.demands.proofs.Calls.{served-call}
 use Rattle.demands.proofs.Refusal.{declined-does-nothing}
-use Rattle.demands.proofs.Turns.{Below, fair-share}
+use Rattle.demands.proofs.Turns.{fair-share}
 
 -- a waiting pair is live after the planned stage
 waits-live : (st : State) (req pre : List ℕ) (i t : ℕ) → i < st .ports → t < st .ports → Waits (st .ports) req pre i t → Live st req pre i t
@@ -30,15 +28,15 @@ waits-live st req pre i t i< t< w = record {
   initiator = i<;
   target = t<;
   asked = w .asked;
-  given-none = λ u g. true≢false (sym (g .claimed) ∙ w .plans-nothing u (g .target));
-  given-to-none = λ j g. true≢false (sym (g .claimed) ∙ w .unplanned j (g .initiator));
+  given-none = λ u g. true≢false (sym (g .claimant .asks-too) ∙ w .plans-nothing u (g .target));
+  given-to-none = λ j g. true≢false (sym (g .claimant .asks-too) ∙ w .unplanned j (g .claimant .below));
 }
 
 -- the favoured pair (I, J) is connected if it waits, in every mode
-pub favoured : (st : State) (mode : Mode) (req pre : List ℕ) → st .initiator .0 < st .ports → st .target .0 < st .ports
+pub favoured : (st : State) (mode : Mode) (req pre : List ℕ) → Below st
     → Waits (st .ports) req pre (st .initiator .0) (st .target .0) → asks (matched st mode req pre .work .held) (st .initiator .0) (st .target .0) ≡ true
 unfolding matched
-favoured st mode req pre i< t< w = mode-favours (λ u. asks (u .held) i t ≡ true) (λ u j c l. held-still u j c i t) st mode s i< t< live (held-now s i t row)
+favoured st mode req pre b w = mode-favours (λ u. asks (u .held) i t ≡ true) (λ u j c l. held-still u j c i t) st b mode s live (held-now s i t row)
   where
     i : ℕ
     i = st .initiator .0
@@ -50,7 +48,7 @@ favoured st mode req pre i< t< w = mode-favours (λ u. asks (u .held) i t ≡ tr
     s = start st req pre
 
     live : asks (s .live) i t ≡ true
-    live = start-live st req pre i t .1 (waits-live st req pre i t i< t< w)
+    live = start-live st req pre i t .1 (waits-live st req pre i t (b .initiator) (b .target) w)
 
     row : i < length (s .held)
     row = rw start-rows (asks-row req i t (w .asked))
@@ -61,14 +59,12 @@ tables-fair m i t = record {
   served-advances = λ st c e. served-call m st c (eqb-true _ 0 e) .advances;
   favours = λ st c e w ei et.
       let r = served-call m st c (eqb-true _ 0 e) in
-      let hit = favoured st (c .mode) (c .req) (c .pre) (r .in-order .initiator) (r .in-order .target) (subst₂ (Waits (st .ports) (c .req) (c .pre)) (sym ei) (sym et) w) in
+      let hit = favoured st (c .mode) (c .req) (c .pre) (r .in-order .offsets) (subst₂ (Waits (st .ports) (c .req) (c .pre)) (sym ei) (sym et) w) in
       rw (e, r .sets-matched) (subst₂ (λ x y. asks (matched st (c .mode) (c .req) (c .pre) .work .held) x y ≡ true) ei et hit);
 }
 
--- Of W served calls of a history, in each of which the pair (i, t) waits, at least W / (n n) connect it. Declined calls may stand between
--- them, modes and limits change from call to call, and the first call may be made on any state with offsets below n.
-pub share : (m i t : ℕ) (st : State) (calls : List Call) → st .initiator .0 < st .ports → st .target .0 < st .ports → i < st .ports → t < st .ports
-    → InEach (next m) (served m) (Waiting i t) st calls
+-- Of W served calls in a history, in each of which the pair (i, t) waits, at least W / n² connect it. Declined calls may stand between them,
+-- modes and limits may change from call to call, and the history may begin at any state with offsets below n.
+pub share : (m i t : ℕ) (st : State) (calls : List Call) → Below st → i < st .ports → t < st .ports → InEach (next m) (served m) (Waiting i t) st calls
     → howMany (next m) (served m) st calls / (st .ports * st .ports) ≤ howMany (next m) (connects m i t) st calls
-share m i t st calls I< J< i< t< waits = fair-share (next m) (served m) (connects m i t) (Waiting i t) i t (tables-fair m i t) (st .ports) i< t< st calls refl
-    (record { initiator = I<; target = J< }) waits
+share m i t = fair-share (tables-fair m i t)

@@ -1,23 +1,24 @@
 -- Rules 3 and 4: what is held and what is live after the planned stage.
 use mathlib.Core.Path.{_≡_, refl, sym, ap, _∙_}
-use mathlib.Core.Logic.{_⊎_, inl, inr, ⊎-elim, _≢_, _↔_}
-use mathlib.Core.Bool.{Bool, true, false, true≢false}
+use mathlib.Core.Logic.{⊎-elim, _≢_, _↔_}
+use mathlib.Core.Bool.{true, false, true≢false}
 use mathlib.Core.List.{List}
-use Prim.Native.Nat.{ℕ, zero, suc, _%_, _^_, _≤_, _<_}
-use native.Mathlib.Decide.{decLt, ℕ-discrete}
+use Prim.Native.Nat.{ℕ, suc, _%_, _^_, _<_}
+use native.Mathlib.Decide.{ℕ-discrete}
 use native.Mathlib.Omega.{arith}
 use lib.ListN.{length, getD, replicate, length-replicate}
-use Rattle.laws.specs.Sets.{has, asks, column}
+use Rattle.laws.specs.Sets.{has, asks}
 use Rattle.laws.proofs.Tests.{same}
-use Rattle.laws.proofs.Members.{has-below, below-has, gathered-same, asks-row, asks-empty, row-tabled, tabled-asks}
-use Rattle.lcf.specs.Choice.{turned, choice}
+use Rattle.laws.proofs.Members.{has-below, below-has, asks-row, asks-empty, row-tabled, tabled-asks}
 use Rattle.lcf.specs.Join.{join}
 use Rattle.lcf.specs.Planned.{planner, planned}
 use Rattle.lcf.specs.Slot.{within, start}
 use Rattle.lcf.specs.declared.state.State.{State}
 use Rattle.lcf.specs.declared.work.Work.{Work}
 use Rattle.demands.specs.Origin.{Given, Live}
-use Rattle.demands.proofs.Join.{Left, live-left, left-live, held-cases, held-length}
+use Rattle.demands.proofs.Choice.{chosen-once, chosen-same}
+use Rattle.demands.proofs.Rules.{planner-chosen}
+use Rattle.demands.proofs.Join.{live-left, left-live, held-cases, held-length}
 use Rattle.demands.proofs.Keeps.{planned-keeps}
 
 -- ---- rows and bits at or above n are ignored
@@ -32,13 +33,6 @@ within-asks n rows i t e =
 pub asks-within : (n : ℕ) (rows : List ℕ) (i t : ℕ) → i < n → t < n → asks rows i t ≡ true → asks (within n rows) i t ≡ true
 unfolding within
 asks-within n rows i t i< t< a = ap (λ s. has s t) (row-tabled (length rows) (λ i. getD rows i 0 % 2 ^ n) n i i< (asks-row rows i t a)) ∙ has-below (getD rows i 0) n t t< ∙ a
-
--- so the planner of a target is the same
-planner-within : (st : State) (pre : List ℕ) (t : ℕ) → t < st .ports → planner st (within (st .ports) pre) t ≡ planner st pre t
-unfolding planner
-planner-within st pre t t< = ap (λ c. choice (has c) (λ i. 0) (st .ports) (turned (st .ports) (st .initiator .0) t (st .target .0)))
-    (gathered-same (λ i. asks (within (st .ports) pre) i t) (λ i. asks pre i t) (st .ports)
-    (λ i i<. same _ _ (λ e. within-asks (st .ports) pre i t e .2) (asks-within (st .ports) pre i t i< t<)))
 
 -- ---- the stage
 
@@ -107,15 +101,20 @@ module _ (st : State) (req pre : List ℕ) where
   unfolding start
   stage = staged st _ _ (λ i t e. true≢false (sym e ∙ asks-empty (length req) i t))
 
+  -- a claimant, with or without what is ignored
+  same-claimants : (t : ℕ) → t < st .ports → (x : ℕ) → x < st .ports → asks (within (st .ports) pre) x t ≡ asks pre x t
+  same-claimants t t< x x< = same _ _ (λ e. within-asks (st .ports) pre x t e .2) (asks-within (st .ports) pre x t x< t<)
+
   goes-given : (t : ℕ) → Goes st (within (st .ports) pre) t → Given st pre (planner st (within (st .ports) pre) t) t
   goes-given t e =
       let (i<, t<, a) = within-asks (st .ports) pre _ t e in
-      record { initiator = i<; target = t<; claimed = a; planner-is = sym (planner-within st pre t t<) }
+      record { target = t<; claimant = chosen-same (same-claimants t t<) (λ x x<. refl) (planner-chosen st (within (st .ports) pre) t _ i< e) }
 
   given-goes : (i t : ℕ) → Given st pre i t → Goes st (within (st .ports) pre) t × (planner st (within (st .ports) pre) t ≡ i)
   given-goes i t g =
-      let e = planner-within st pre t (g .target) ∙ g .planner-is in
-      (rw e (asks-within (st .ports) pre i t (g .initiator) (g .target) (g .claimed)), e)
+      let first = chosen-same (λ x x<. sym (same-claimants t (g .target) x x<)) (λ x x<. refl) (g .claimant) in
+      let p = planner-chosen st (within (st .ports) pre) t i (first .below) (first .asks-too) in
+      (p .asks-too, chosen-once p first)
 
   -- what is held after the planned stage was given
   pub start-held : (i t : ℕ) → asks (start st req pre .held) i t ≡ true → Given st pre i t

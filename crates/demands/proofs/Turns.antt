@@ -1,28 +1,23 @@
--- The share of a turn: the offsets go through every pair, so each pair is favoured once in any n n served slots.
+-- The offsets go through every pair in turn, so each pair is favoured once in any n² served slots, and has its share of them.
 use mathlib.Core.Path.{_≡_, refl, sym, ap, _∙_}
-use mathlib.Core.Logic.{_⊎_, inl, inr, ⊎-elim}
+use mathlib.Core.Logic.{_⊎_, inl, inr}
 use mathlib.Core.Bool.{Bool, true, false, cond}
 use mathlib.Core.List.{List, [], _∷_}
-use Prim.Native.Nat.{ℕ, zero, suc, _+_, _-_, _*_, _/_, _%_, _^_, _≤_, _<_}
-use native.Mathlib.Nat.{mod-lt, mod-eq-of-lt, mod-self, add-zero, mul-le-mul-right, mul-add-mod-self-right, mul-add-div-right, div-eq-of-lt, div-lt-iff-lt-mul, suc-mul}
+use Prim.Native.Nat.{ℕ, zero, suc, _+_, _-_, _*_, _/_, _%_, _≤_, _<_}
+use native.Mathlib.Nat.{mod-lt, mod-eq-of-lt, mod-self, add-zero, mul-le-mul-right, mul-add-mod-self-right, mul-add-div-right, div-eq-of-lt, div-lt-iff-lt-mul}
 use native.Mathlib.Decide.{decLe, decLt}
 use native.Mathlib.Omega.{arith}
 use lib.Dec.{eqb}
-use borrow.Author.Tests.{eq-eqb, ne-eqb}
-use Rattle.laws.proofs.Tests.{arms, decided}
+use borrow.Author.Tests.{ne-eqb}
+use Rattle.laws.proofs.Tests.{arms}
 use Rattle.lcf.specs.Advance.{advance}
 use Rattle.lcf.specs.declared.state.State.{State}
-use Rattle.demands.specs.History.{howMany, InEach, Fair}
+use Rattle.demands.specs.History.{Below, howMany, InEach, Fair}
 
 -- ---- the offsets as one number
 
 turn : State → ℕ
 turn st = st .target .0 * st .ports + st .initiator .0
-
--- the offsets are below the ports
-pub record Below (st : State) : Type 0 where
-  pub initiator : st .initiator .0 < st .ports
-  pub target : st .target .0 < st .ports
 
 pub advance-below : (st : State) → Below st → Below (advance st)
 unfolding advance
@@ -110,14 +105,13 @@ comes-nearer N p p′ q d q< (d<, inl a) (inr e) = absurd (omega arith)
 comes-nearer N p p′ q d q< (d<, inr a) (inl e) = (omega arith, inr (omega arith))
 comes-nearer N p p′ q d q< (d<, inr a) (inr e) = (omega arith, inl (omega arith))
 
-module _ {C : Type 0} (next : State → C → State) (served connects : State → C → Bool) (Waiting : State → C → Type 0) (i t : ℕ) (fair : Fair next served connects Waiting i t)
-    (n : ℕ) (i< : i < n) (t< : t < n) where
+module _ {C : Type 0} {next : State → C → State} {served connects : State → C → Bool} {Waiting : State → C → Type 0} {i t : ℕ} (fair : Fair next served connects Waiting i t) where
   -- with the pair's turn d turns ahead
-  bound : (calls : List C) (st : State) (d : ℕ) → st .ports ≡ n → Below st → Ahead (n * n) (turn st) (t * n + i) d → InEach next served Waiting st calls
-      → howMany next served st calls ≤ howMany next connects st calls * (n * n) + d
+  bound : (n : ℕ) → i < n → t < n → (calls : List C) (st : State) (d : ℕ) → st .ports ≡ n → Below st → Ahead (n * n) (turn st) (t * n + i) d
+      → InEach next served Waiting st calls → howMany next served st calls ≤ howMany next connects st calls * (n * n) + d
   unfolding howMany InEach
-  bound [] st d p b a w = omega arith
-  bound (c ∷ calls) st d p b a w = go (served st c) refl d a (λ d′ p′ b′ a′. bound calls (next st c) d′ p′ b′ a′ (w .1))
+  bound n i< t< [] st d p b a w = omega arith
+  bound n i< t< (c ∷ calls) st d p b a w = go (served st c) refl d a (λ d′ p′ b′ a′. bound n i< t< calls (next st c) d′ p′ b′ a′ (w .1))
     where
       q : ℕ
       q = t * n + i
@@ -160,11 +154,13 @@ module _ {C : Type 0} (next : State → C → State) (served connects : State �
               rw hit (omega (arith, later (n * n - 1) (comes-again (n * n) (turn st) _ q here< here follows)))
           come (suc d) a = omega (arith, later d (comes-nearer (n * n) (turn st) _ q d q< a follows))
 
-  -- of W served slots, in each of which the pair waits, W / (n n) connect it
-  pub fair-share : (st : State) (calls : List C) → st .ports ≡ n → Below st → InEach next served Waiting st calls
-      → howMany next served st calls / (n * n) ≤ howMany next connects st calls
-  fair-share st calls p b w =
-      let (d, a) = ahead (n * n) (turn st) (t * n + i) (rw (← p) (turn-in st b)) (turn-below n i t i< t<) in
-      let most = bound calls st d p b a w in
-      let some : 0 < n * n = omega (arith, turn-below n i t i< t<) in
-      omega (arith, div-lt-iff-lt-mul some .1 (let h : howMany next served st calls < (howMany next connects st calls + 1) * (n * n) = omega arith in h))
+  -- of W served calls, in each of which the pair waits, at least W / n² connect it
+  pub fair-share : (st : State) (calls : List C) → Below st → i < st .ports → t < st .ports → InEach next served Waiting st calls
+      → howMany next served st calls / (st .ports * st .ports) ≤ howMany next connects st calls
+  fair-share st calls b i< t< w =
+      let q< = turn-below (st .ports) i t i< t< in
+      let (d, a) = ahead (st .ports * st .ports) (turn st) (t * st .ports + i) (turn-in st b) q< in
+      let most = bound (st .ports) i< t< calls st d refl b a w in
+      let some : 0 < st .ports * st .ports = omega arith in
+      let less : howMany next served st calls < (howMany next connects st calls + 1) * (st .ports * st .ports) = omega arith in
+      omega (arith, div-lt-iff-lt-mul some .1 less)

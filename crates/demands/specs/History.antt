@@ -1,10 +1,15 @@
--- A history of calls on one state, over any kind C of call: `next` is the state that a call leaves to the following one.
+-- A history of calls on one state, over any kind C of call: `next` is the state that a call leaves to the one after it.
 use mathlib.Core.Path.{_≡_}
 use mathlib.Core.Bool.{Bool, true, false, cond}
 use mathlib.Core.List.{List, [], _∷_}
-use Prim.Native.Nat.{ℕ, _+_}
+use Prim.Native.Nat.{ℕ, _+_, _<_}
 use Rattle.lcf.specs.Advance.{advance}
 use Rattle.lcf.specs.declared.state.State.{State}
+
+-- the offsets are below the ports
+pub record Below (st : State) : Type 0 where
+  pub initiator : st .initiator .0 < st .ports
+  pub target : st .target .0 < st .ports
 
 -- how many of the calls have p, the first of them being made on st
 unfoldable pub howMany : {C : Type 0} → (State → C → State) → (State → C → Bool) → State → List C → ℕ

@@ -1,18 +1,16 @@
--- Where a connection can come from: rules 3 and 4, said of the request table and the planned table as they come.
+-- Where a connection can come from: rules 3 and 4, said of the request table and the planned table as they are handed over.
 use mathlib.Core.Path.{_≡_}
 use mathlib.Core.Bool.{true}
 use mathlib.Core.List.{List}
 use Prim.Native.Nat.{ℕ, _<_}
 use Rattle.laws.specs.Sets.{asks}
-use Rattle.lcf.specs.Planned.{planner}
 use Rattle.lcf.specs.declared.state.State.{State}
+use Rattle.demands.specs.Choice.{FirstClaimant}
 
--- rule 3: initiator i claims target t, and of its claimants t is given to i
+-- rule 3: target t is given to initiator i
 pub record Given (st : State) (pre : List ℕ) (i t : ℕ) : Type 0 where
-  pub initiator : i < st .ports
   pub target : t < st .ports
-  pub claimed : asks pre i t ≡ true
-  pub planner-is : planner st pre t ≡ i
+  pub claimant : FirstClaimant st pre t i
 
 -- rule 4: initiator i asks for target t, is given no target, and t is given to nobody
 pub record Live (st : State) (req pre : List ℕ) (i t : ℕ) : Type 0 where

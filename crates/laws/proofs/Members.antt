@@ -1,8 +1,8 @@
 -- Who is in a set, and which pairs are in a table.
-use mathlib.Core.Path.{_≡_, refl, sym, ap, ap₂, _∙_, subst}
-use mathlib.Core.Logic.{_⊎_, inl, inr, ⊎-elim, _≢_}
+use mathlib.Core.Path.{_≡_, refl, sym, ap, ap₂, _∙_}
+use mathlib.Core.Logic.{_⊎_, inl, inr, ⊎-elim}
 use mathlib.Core.Bool.{Bool, true, false, not, _&&_, _||_, cond, or-true, true≢false}
-use mathlib.Core.List.{List, [], _∷_, map}
+use mathlib.Core.List.{List}
 use Prim.Native.Nat.{ℕ, zero, suc, _+_, _-_, _*_, _/_, _%_, _^_, _≤_, _<_}
 use native.Mathlib.Nat.{div-div-eq-div-mul, div-eq-of-lt, div-mul-le-self, mod-le, mod-lt, mul-assoc, mul-comm, mul-le-mul-right, pow-suc, zero-div, le-trans}
 use native.Mathlib.Decide.{decLt, ℕ-discrete}
@@ -12,11 +12,10 @@ use lib.Dec.{eqb, eqb·zero-suc, eqb·suc-zero, eqb·suc-suc}
 use lib.ListN.{length, getD, set, replicate, List·getD-eq-default, length-set, length-replicate, getD-replicate}
 use lib.Pow.{field, mod-mod-pow, pow-mono, pow-pos}
 use lib.Seq.{getD-set-same, getD-set-other, set-out}
-use borrow.Author.Tests.{eqb-true, eqb-false, eq-eqb, ne-eqb, not-true}
-use Rattle.laws.specs.Steps.{steps}
+use borrow.Author.Tests.{eqb-true, eq-eqb}
 use Rattle.laws.specs.Sets.{digit, has, with, without, gathered, asks, tabled}
 use Rattle.laws.proofs.Tests.{either, same, arms}
-use Rattle.laws.proofs.Steps.{kept, steps-same}
+use Rattle.laws.proofs.Steps.{kept}
 
 -- ---- the digits of a word
 
@@ -91,10 +90,13 @@ below-has s n j e = go (decLt j n)
 
 module _ (p : ℕ → Bool) where
   pub gathered-has : (n j : ℕ) → has (gathered p n) j ≡ true → (j < n) × (p j ≡ true)
-  gathered-has n j = kept _ 0 (λ k s. has s j ≡ true → (j < k) × (p j ≡ true)) n next (λ e. absurd (true≢false (sym e ∙ has-none j)))
+  gathered-has n j = kept _ 0 Known n next (λ e. absurd (true≢false (sym e ∙ has-none j)))
     where
-      next : (k s : ℕ) → k < n → (has s j ≡ true → (j < k) × (p j ≡ true)) → has (cond (p k) (with s k) s) j ≡ true → (j < suc k) × (p j ≡ true)
-      next k s l before = arms (λ s. has s j ≡ true → (j < suc k) × (p j ≡ true)) (p k) _ _ (λ q e. ⊎-elim old (new q) (either (has s j) (eqb j k) (sym (has-with s k j) ∙ e))) (λ q. old)
+      Known : ℕ → ℕ → Type 0
+      Known k s = has s j ≡ true → (j < k) × (p j ≡ true)
+
+      next : (k s : ℕ) → k < n → Known k s → Known (suc k) (cond (p k) (with s k) s)
+      next k s l before = arms (Known (suc k)) (p k) _ _ (λ q e. ⊎-elim old (new q) (either (has s j) (eqb j k) (sym (has-with s k j) ∙ e))) (λ q. old)
         where
           old : has s j ≡ true → (j < suc k) × (p j ≡ true)
           old e = let (a, b) = before e in (omega arith, b)
@@ -112,21 +114,18 @@ module _ (p : ℕ → Bool) where
           go (yes e) = rw (← e, q, has-with, eq-eqb j j refl) (or-true (has s j))
           go (no e) = let b = before (omega arith) in arms (λ s. has s j ≡ true) (p k) _ _ (λ _. rw (has-with, b)) (λ _. b)
 
-pub gathered-same : (p q : ℕ → Bool) (n : ℕ) → ((k : ℕ) → k < n → p k ≡ q k) → gathered p n ≡ gathered q n
-gathered-same p q n h = steps-same _ _ 0 n (λ k s l. ap (λ b. cond b (with s k) s) (h k l))
-
 pub gathered-none : (p : ℕ → Bool) (n : ℕ) → ((k : ℕ) → k < n → p k ≡ false) → gathered p n ≡ 0
 gathered-none p n h = kept _ 0 (λ k s. s ≡ 0) n (λ k s l e. rw (h k l) e) refl
 
 -- ---- the pairs of a table
 
 -- a row that is set, or the row as it was
-pub set-row : (rows : List ℕ) (w v i : ℕ) → (getD (set rows w v) i 0 ≡ getD rows i 0) ⊎ ((i ≡ w) × (w < length rows) × (getD (set rows w v) i 0 ≡ v))
+pub set-row : (rows : List ℕ) (w v i : ℕ) → (getD (set rows w v) i 0 ≡ getD rows i 0) ⊎ ((i ≡ w) × (getD (set rows w v) i 0 ≡ v))
 set-row rows w v i = go (ℕ-discrete i w) (decLt w (length rows))
   where
-    go : Dec (i ≡ w) → Dec (w < length rows) → (getD (set rows w v) i 0 ≡ getD rows i 0) ⊎ ((i ≡ w) × (w < length rows) × (getD (set rows w v) i 0 ≡ v))
+    go : Dec (i ≡ w) → Dec (w < length rows) → (getD (set rows w v) i 0 ≡ getD rows i 0) ⊎ ((i ≡ w) × (getD (set rows w v) i 0 ≡ v))
     go (no e) d = inl (getD-set-other rows w i v 0 e)
-    go (yes e) (yes h) = inr (e, h, rw e (getD-set-same rows w v 0 h))
+    go (yes e) (yes h) = inr (e, rw e (getD-set-same rows w v 0 h))
     go (yes e) (no h) = inl (ap (λ l. getD l i 0) (set-out rows w v (omega arith)))
 
 pub row-emptied : (rows : List ℕ) (w : ℕ) → getD (set rows w 0) w 0 ≡ 0
@@ -154,13 +153,13 @@ asks-empty m i t = ap (λ s. has s t) (go (decLt i m)) ∙ has-none t
     go (no h) = List·getD-eq-default (replicate m 0) 0 (rw length-replicate (omega arith))
 
 module _ (m : ℕ) (f : ℕ → ℕ) where
-  pub length-tabled : (n : ℕ) → length (tabled m f n) ≡ m
-  length-tabled n = kept _ (replicate m 0) (λ k rows. length rows ≡ m) n (λ k rows h e. length-set rows k (f k) ∙ e) (length-replicate m 0)
-
   pub row-tabled : (n i : ℕ) → i < n → i < m → getD (tabled m f n) i 0 ≡ f i
-  row-tabled n i h l = kept _ (replicate m 0) (λ k rows. (length rows ≡ m) × (i < k → getD rows i 0 ≡ f i)) n next (length-replicate m 0, λ z. absurd (omega arith)) .1 h
+  row-tabled n i h l = kept _ (replicate m 0) Filled n next (length-replicate m 0, λ z. absurd (omega arith)) .1 h
     where
-      next : (k : ℕ) (rows : List ℕ) → k < n → (length rows ≡ m) × (i < k → getD rows i 0 ≡ f i) → (length (set rows k (f k)) ≡ m) × (i < suc k → getD (set rows k (f k)) i 0 ≡ f i)
+      Filled : ℕ → List ℕ → Type 0
+      Filled k rows = (length rows ≡ m) × (i < k → getD rows i 0 ≡ f i)
+
+      next : (k : ℕ) (rows : List ℕ) → k < n → Filled k rows → Filled (suc k) (set rows k (f k))
       next k rows z (e, before) = (length-set rows k (f k) ∙ e, λ y. go y (ℕ-discrete i k))
         where
           go : i < suc k → Dec (i ≡ k) → getD (set rows k (f k)) i 0 ≡ f i
@@ -168,10 +167,13 @@ module _ (m : ℕ) (f : ℕ → ℕ) where
           go y (no q) = rw (getD-set-other rows k i (f k) 0 q) (before (omega arith))
 
   pub tabled-asks : (n i t : ℕ) → asks (tabled m f n) i t ≡ true → (i < n) × (has (f i) t ≡ true)
-  tabled-asks n i t = kept _ (replicate m 0) (λ k rows. asks rows i t ≡ true → (i < k) × (has (f i) t ≡ true)) n next (λ e. absurd (true≢false (sym e ∙ asks-empty m i t)))
+  tabled-asks n i t = kept _ (replicate m 0) Known n next (λ e. absurd (true≢false (sym e ∙ asks-empty m i t)))
     where
-      next : (k : ℕ) (rows : List ℕ) → k < n → (asks rows i t ≡ true → (i < k) × (has (f i) t ≡ true)) → asks (set rows k (f k)) i t ≡ true → (i < suc k) × (has (f i) t ≡ true)
+      Known : ℕ → List ℕ → Type 0
+      Known k rows = asks rows i t ≡ true → (i < k) × (has (f i) t ≡ true)
+
+      next : (k : ℕ) (rows : List ℕ) → k < n → Known k rows → Known (suc k) (set rows k (f k))
       next k rows z before e = ⊎-elim
           (λ q. let (x, y) = before (ap (λ s. has s t) (sym q) ∙ e) in (omega arith, y))
-          (λ q. (omega arith, ap (λ s. has s t) (ap f (q .0) ∙ sym (q .2)) ∙ e))
+          (λ q. (omega arith, ap (λ s. has s t) (ap f (q .0) ∙ sym (q .1)) ∙ e))
           (set-row rows k (f k) i)

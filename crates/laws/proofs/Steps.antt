@@ -1,5 +1,4 @@
 -- What the steps of a "for k = 0 to n - 1" keep.
-use mathlib.Core.Path.{_≡_, refl, ap, _∙_}
 use Prim.Native.Nat.{ℕ, zero, suc, _≤_, _<_}
 use native.Mathlib.Omega.{arith}
 use Rattle.laws.specs.Steps.{steps}
@@ -23,9 +22,3 @@ module _ {A : Type 0} (f : ℕ → A → A) (x : A) where
       go : (k : ℕ) → P (steps f x (suc k))
       go zero = p
       go (suc k) = step (suc k) (steps f x (suc k)) (go k)
-
--- steps that agree lead to one result
-pub steps-same : {A : Type 0} (f g : ℕ → A → A) (x : A) (n : ℕ) → ((k : ℕ) (u : A) → k < n → f k u ≡ g k u) → steps f x n ≡ steps g x n
-unfolding steps
-steps-same f g x zero h = refl
-steps-same f g x (suc n) h = h n (steps f x n) (omega arith) ∙ ap (g n) (steps-same f g x n (λ k u l. h k u (omega arith)))

@@ -11,10 +11,6 @@ pub either : (a b : Bool) → a || b ≡ true → (a ≡ true) ⊎ (b ≡ true)
 either true b e = inl refl
 either false b e = inr e
 
-pub decided : (b : Bool) → (b ≡ true) ⊎ (b ≡ false)
-decided true = inl refl
-decided false = inr refl
-
 pub refuted : (b : Bool) → (b ≡ true → ⊥) → b ≡ false
 refuted true f = absurd (f refl)
 refuted false f = refl
