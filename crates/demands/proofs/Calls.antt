@@ -62,9 +62,15 @@ module _ (m : ℕ) (st : State) (c : Call) where
       go false false false false false h false false e1 e2 e3 e4 e5 e6 e7 = omega (arith, ltb-false, leb-false)
 
   -- with the state in order, it is one of the later numbers
-  pub ordered : InOrder m st → (x : ℕ) → cond (leb 1 late && leb late (2 ^ 31)) 3 (cond (ltb (2 ^ 31) late) 4 (cond (wrongLimit m (c .mode)) 5 0)) ≡ x → due ≡ x
+  pub ordered : InOrder m st → (x : ℕ)
+      → cond (leb 1 late && leb late (2 ^ 31)) 3 (cond (ltb (2 ^ 31) late) 4 (cond (wrongLimit m (c .mode)) 5 0)) ≡ x → due ≡ x
   unfolding dueNumber
-  ordered o x e = rw (le-ltb (st .ports) 1 (o .some-port), le-ltb m (st .ports) (o .most-ports), lt-leb (st .ports) (st .initiator .0) (o .offsets .initiator), lt-leb (st .ports) (st .target .0) (o .offsets .target)) e
+  ordered o x e =
+      let ports-a = le-ltb (st .ports) 1 (o .some-port) in
+      let ports-b = le-ltb m (st .ports) (o .most-ports) in
+      let offset-i = lt-leb (st .ports) (st .initiator .0) (o .offsets .initiator) in
+      let offset-j = lt-leb (st .ports) (st .target .0) (o .offsets .target) in
+      rw (ports-a, ports-b, offset-i, offset-j) e
 
   -- ---- the call
 
@@ -103,6 +109,8 @@ module _ (m : ℕ) (st : State) (c : Call) where
   pub due-exactly : (x : ℕ) → (x ≡ 0 → ⊥) → (x ≡ 12 → ⊥) → (number m st c ≡ x) ↔ (dueNumber m st (c .slot) (c .mode) ≡ x)
   unfolding declined
   due-exactly x a b = (
-    call-cases (λ r. r .answer .number ≡ x → due ≡ x) (λ z e. absurd (a (sym e))) (λ y ne why e. ⊎-elim (λ q. q ∙ e) (λ q. absurd (b (sym e ∙ q .1))) why),
-    call-cases (λ r. due ≡ x → r .answer .number ≡ x) (λ z e. absurd (a (sym e ∙ z))) (λ y ne why e. ⊎-elim (λ q. sym q ∙ e) (λ q. absurd (a (sym e ∙ q .0))) why),
+    call-cases (λ r. r .answer .number ≡ x → due ≡ x) (λ z e. absurd (a (sym e)))
+        (λ y ne why e. ⊎-elim (λ q. q ∙ e) (λ q. absurd (b (sym e ∙ q .1))) why),
+    call-cases (λ r. due ≡ x → r .answer .number ≡ x) (λ z e. absurd (a (sym e ∙ z)))
+        (λ y ne why e. ⊎-elim (λ q. sym q ∙ e) (λ q. absurd (a (sym e ∙ q .0))) why),
   )

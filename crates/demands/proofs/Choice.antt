@@ -112,7 +112,8 @@ module _ {p : ℕ → Bool} {f : ℕ → ℕ} {n a : ℕ} where
       go (no l) (no k) = let q : x .turn ≡ y .turn = omega arith in sym (x .in-turn) ∙ ap (place n a) q ∙ y .in-turn
 
   -- it sees no more than who asks below n, and with what number
-  pub chosen-same : {q : ℕ → Bool} {g : ℕ → ℕ} {c : ℕ} → ((x : ℕ) → x < n → p x ≡ q x) → ((x : ℕ) → x < n → f x ≡ g x) → Chosen p f n a c → Chosen q g n a c
+  pub chosen-same : {q : ℕ → Bool} {g : ℕ → ℕ} {c : ℕ} → ((x : ℕ) → x < n → p x ≡ q x) → ((x : ℕ) → x < n → f x ≡ g x)
+      → Chosen p f n a c → Chosen q g n a c
   chosen-same {q} {g} {c} same-asking same-number h = record {
     below = h .below;
     asks-too = sym (same-asking c (h .below)) ∙ h .asks-too;

@@ -13,7 +13,7 @@ use Rattle.demands.specs.Call.{Call, sets, counting}
 use Rattle.demands.specs.Origin.{Given, Live, Alone}
 use Rattle.demands.proofs.Calls.{of-sets}
 use Rattle.demands.proofs.Hosts.{counted-asks}
-use Rattle.demands.proofs.Lawful.{matched-once, matched-source}
+use Rattle.demands.proofs.Lawful.{Source, matched-once, matched-source}
 
 module _ (m : ℕ) (st : State) where
   -- No target is in two rows.
@@ -22,12 +22,14 @@ module _ (m : ℕ) (st : State) where
       (λ e. absurd (true≢false (sym e ∙ asks-empty m i t)))
 
   -- A connection was given in the planned stage, or is a live request and all that its initiator holds.
-  pub nothing-from-nowhere : (c : Call) (i t : ℕ) → asks (sets m st c) i t ≡ true → Given st (c .pre) i t ⊎ (Live st (c .req) (c .pre) i t × Alone (sets m st c) i t)
-  nothing-from-nowhere c i t = of-sets m st c (λ s. asks s i t ≡ true → Given st (c .pre) i t ⊎ (Live st (c .req) (c .pre) i t × Alone s i t)) (matched-source st (c .req) (c .pre) (c .mode) i t)
+  pub nothing-from-nowhere : (c : Call) (i t : ℕ) → asks (sets m st c) i t ≡ true
+      → Given st (c .pre) i t ⊎ (Live st (c .req) (c .pre) i t × Alone (sets m st c) i t)
+  nothing-from-nowhere c i t = of-sets m st c (λ s. asks s i t ≡ true → Source st (c .req) (c .pre) s i t) (matched-source st (c .req) (c .pre) (c .mode) i t)
       (λ e. absurd (true≢false (sym e ∙ asks-empty m i t)))
 
   -- An initiator that is unheard or disabled is connected to nothing.
-  pub absent-unconnected : (c : Call) (heard : ℕ) (ben : List ℕ) (i t : ℕ) → present (st .ports) heard ben i ≡ false → asks (sets m st (counting st heard ben c)) i t ≡ false
+  pub absent-unconnected : (c : Call) (heard : ℕ) (ben : List ℕ) (i t : ℕ) → present (st .ports) heard ben i ≡ false
+      → asks (sets m st (counting st heard ben c)) i t ≡ false
   absent-unconnected c heard ben i t absent = refuted _ (λ e. ⊎-elim
       (λ given. true≢false (sym (counted-asks (st .ports) heard ben (c .pre) i t (given .claimant .asks-too) .0) ∙ absent))
       (λ live. true≢false (sym (counted-asks (st .ports) heard ben (c .req) i t (live .0 .asked) .0) ∙ absent))

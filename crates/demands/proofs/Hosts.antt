@@ -10,11 +10,11 @@ use Rattle.laws.specs.Sets.{has, asks}
 use Rattle.laws.proofs.Tests.{both, refuted}
 use Rattle.laws.proofs.Members.{has-none, asks-row, row-tabled, tabled-asks, has-gathered, gathered-none}
 use Rattle.lcf.specs.Heard.{clearers, present, counted}
-use Rattle.demands.specs.Share.{Waits, HostWaits}
 
 module _ (n heard : ℕ) (ben : List ℕ) where
   -- rule 2: an initiator is present if it is heard and every heard host has its bit set in ben
-  pub present-exactly : (i : ℕ) → (present n heard ben i ≡ true) ↔ ((has heard i ≡ true) × ((h : ℕ) → h < n → has heard h ≡ true → asks ben h i ≡ true))
+  pub present-exactly : (i : ℕ) → (present n heard ben i ≡ true)
+      ↔ ((has heard i ≡ true) × ((h : ℕ) → h < n → has heard h ≡ true → asks ben h i ≡ true))
   unfolding present clearers
   present-exactly i = (to, from)
     where
@@ -24,7 +24,8 @@ module _ (n heard : ℕ) (ben : List ℕ) where
       to : present n heard ben i ≡ true → (has heard i ≡ true) × ((h : ℕ) → h < n → has heard h ≡ true → asks ben h i ≡ true)
       to e =
           let (a, b) = both (has heard i) _ e in
-          (a, λ h h< q. not-false _ (refuted _ (λ z. true≢false (sym (rw (q, z)) ∙ sym (has-gathered clears n h h<) ∙ ap (λ s. has s h) (eqb-true _ 0 b) ∙ has-none h))))
+          let nobody : (h : ℕ) → h < n → clears h ≡ false = λ h h<. sym (has-gathered clears n h h<) ∙ ap (λ s. has s h) (eqb-true _ 0 b) ∙ has-none h in
+          (a, λ h h< q. not-false _ (refuted _ (λ z. true≢false (sym (rw (q, z)) ∙ nobody h h<))))
 
       from : (has heard i ≡ true) × ((h : ℕ) → h < n → has heard h ≡ true → asks ben h i ≡ true) → present n heard ben i ≡ true
       from (a, b) = rw (a, gathered-none clears n (λ h h<. refuted _ (λ e. let (x, y) = both (has heard h) _ e in true≢false (sym (b h h< x) ∙ not-true _ y))))
@@ -38,14 +39,8 @@ module _ (n heard : ℕ) (ben : List ℕ) where
       sent true e = (refl, e)
       sent false e = absurd (true≢false (sym e ∙ has-none t))
 
-  asks-counted : (rows : List ℕ) (i t : ℕ) → i < n → present n heard ben i ≡ true → asks rows i t ≡ true → asks (counted n heard ben rows) i t ≡ true
+  pub asks-counted : (rows : List ℕ) (i t : ℕ) → i < n → present n heard ben i ≡ true → asks rows i t ≡ true → asks (counted n heard ben rows) i t ≡ true
   unfolding counted
-  asks-counted rows i t i< here e = ap (λ s. has s t) (row-tabled (length rows) (λ i. cond (present n heard ben i) (getD rows i 0) 0) n i i< (asks-row rows i t e)) ∙ rw here e
-
-  -- a host that waits waits in the tables that count
-  pub hosts-wait : (req pre : List ℕ) (i t : ℕ) → i < n → HostWaits n heard ben req pre i t → Waits n (counted n heard ben req) (counted n heard ben pre) i t
-  hosts-wait req pre i t i< w = record {
-    asked = asks-counted req i t i< (w .here) (w .asked);
-    plans-nothing = λ u u<. refuted _ (λ e. true≢false (sym (counted-asks pre i u e .1) ∙ w .plans-nothing u u<));
-    unplanned = λ h h<. refuted _ (λ e. let (x, y) = counted-asks pre h t e in true≢false (sym y ∙ w .unplanned h h< x));
-  }
+  asks-counted rows i t i< here e =
+      let row = row-tabled (length rows) (λ i. cond (present n heard ben i) (getD rows i 0) 0) n i i< (asks-row rows i t e) in
+      ap (λ s. has s t) row ∙ rw here e

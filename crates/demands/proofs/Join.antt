@@ -37,7 +37,11 @@ module _ (s : Work) (w c : ℕ) where
 
       go : Dec (i ≡ w) → Left i t
       go (yes q) = absurd (true≢false (sym (had .1) ∙ ap (λ row. has row t) (ap (λ x. getD (set (s .live) w 0) x 0) q ∙ row-emptied (s .live) w) ∙ has-none t))
-      go (no q) = record { was = ap (λ row. has row t) (sym (getD-set-other (s .live) w i 0 0 q)) ∙ had .1; other-row = q; other-column = eqb-false t c (not-true _ (had .0)) }
+      go (no q) = record {
+        was = ap (λ row. has row t) (sym (getD-set-other (s .live) w i 0 0 q)) ∙ had .1;
+        other-row = q;
+        other-column = eqb-false t c (not-true _ (had .0));
+      }
 
   pub left-live : (i t : ℕ) → Left i t → asks (join s w c .live) i t ≡ true
   left-live i t l =

@@ -72,7 +72,9 @@ module _ (P : Work → Type 0) (keeps : (s : Work) (i t : ℕ) → asks (s .live
         others e i u l f = record {
           was = h .still i u (omega arith) f;
           other-row = λ q. omega arith;
-          other-column = λ q. let same : i ≡ k = sym (offered st live grant i u f .1) ∙ ap (λ x. getD grant x 0) q ∙ offered st live grant k t e .1 in omega arith;
+          other-column = λ q.
+              let same : i ≡ k = sym (offered st live grant i u f .1) ∙ ap (λ x. getD grant x 0) q ∙ offered st live grant k t e .1 in
+              omega arith;
         }
 
   round-keeps : (s : Work) → P s → P (round st s .work)
@@ -100,7 +102,9 @@ module _ (P : Work → Type 0) (keeps : (s : Work) (i t : ℕ) → asks (s .live
 
 -- What the giving of a planned target keeps, the planned stage keeps: P t holds when the targets below t have been given.
 module _ (P : ℕ → Work → Type 0) (st : State) (pre : List ℕ) where
-  pub planned-keeps : (s : Work) → ((t : ℕ) (u : Work) → t < st .ports → asks pre (planner st pre t) t ≡ true → P t u → P (suc t) (join u (planner st pre t) t))
+  pub planned-keeps : (s : Work)
+      → ((t : ℕ) (u : Work) → t < st .ports → asks pre (planner st pre t) t ≡ true → P t u → P (suc t) (join u (planner st pre t) t))
       → ((t : ℕ) (u : Work) → asks pre (planner st pre t) t ≡ false → P t u → P (suc t) u) → P 0 s → P (st .ports) (planned st pre s)
   unfolding planned give
-  planned-keeps s gives skips p = kept _ s P (st .ports) (λ t u h q. arms (P (suc t)) (asks pre (planner st pre t) t) _ _ (λ e. gives t u h e q) (λ e. skips t u e q)) p
+  planned-keeps s gives skips p = kept _ s P (st .ports)
+      (λ t u h q. arms (P (suc t)) (asks pre (planner st pre t) t) _ _ (λ e. gives t u h e q) (λ e. skips t u e q)) p

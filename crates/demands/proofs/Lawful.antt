@@ -23,8 +23,12 @@ record Settled (s : Work) : Type 0 where
 
 join-settled : (s : Work) (w c : ℕ) → Settled s → Settled (join s w c)
 join-settled s w c h = record {
-  row-done = λ i t u a l. let x = live-left s w c i u l in ⊎-elim (λ b. h .row-done i t u b (x .was)) (λ b. x .other-row (b .0)) (held-cases s w c i t a);
-  column-done = λ i j t a l. let x = live-left s w c j t l in ⊎-elim (λ b. h .column-done i j t b (x .was)) (λ b. x .other-column (b .1)) (held-cases s w c i t a);
+  row-done = λ i t u a l.
+      let x = live-left s w c i u l in
+      ⊎-elim (λ b. h .row-done i t u b (x .was)) (λ b. x .other-row (b .0)) (held-cases s w c i t a);
+  column-done = λ i j t a l.
+      let x = live-left s w c j t l in
+      ⊎-elim (λ b. h .column-done i j t b (x .was)) (λ b. x .other-column (b .1)) (held-cases s w c i t a);
 }
 
 module _ (st : State) (req pre : List ℕ) where
@@ -67,7 +71,10 @@ module _ (st : State) (req pre : List ℕ) where
   join-sourced s w c live h = record {
     settled = join-settled s w c (h .settled);
     still-live = λ i t l. h .still-live i t (live-left s w c i t l .was);
-    source = λ i t a. ⊎-elim (λ x. ⊎-elim inl (λ y. inr (y .0, alone-still i t x (y .1))) (h .source i t x)) (λ x. inr (rw (x .0, x .1) (h .still-live w c live), alone-now i t (x .0) (x .1))) (held-cases s w c i t a);
+    source = λ i t a. ⊎-elim
+        (λ x. ⊎-elim inl (λ y. inr (y .0, alone-still i t x (y .1))) (h .source i t x))
+        (λ x. inr (rw (x .0, x .1) (h .still-live w c live), alone-now i t (x .0) (x .1)))
+        (held-cases s w c i t a);
   }
     where
       -- a row that holds something has no live request, so it gains nothing
@@ -87,7 +94,8 @@ module _ (st : State) (req pre : List ℕ) where
 
   -- ---- in every mode
 
-  pub matched-once : (mode : Mode) (i j t : ℕ) → asks (matched st mode req pre .work .held) i t ≡ true → asks (matched st mode req pre .work .held) j t ≡ true → i ≡ j
+  pub matched-once : (mode : Mode) (i j t : ℕ) → asks (matched st mode req pre .work .held) i t ≡ true
+      → asks (matched st mode req pre .work .held) j t ≡ true → i ≡ j
   unfolding matched
   matched-once mode = mode-keeps Apart join-apart st mode (start st req pre) start-apart .once
 

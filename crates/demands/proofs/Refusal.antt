@@ -26,7 +26,8 @@ module _ (m : ℕ) (st : State) (c : Call) where
     λ e. let d = due-exactly m st c 3 (λ q. omega arith) (λ q. omega arith) .0 e in
         let (x, y) = means m st c .stale d in
         (means m st c .in-order (λ q. omega arith) (λ q. omega arith), x, y),
-    λ (o, x, y). due-exactly m st c 3 (λ q. omega arith) (λ q. omega arith) .1 (ordered m st c o 3 (rw (le-leb 1 (behind st (c .slot)) x, le-leb (behind st (c .slot)) (2 ^ 31) y))),
+    λ (o, x, y). due-exactly m st c 3 (λ q. omega arith) (λ q. omega arith) .1
+        (ordered m st c o 3 (rw (le-leb 1 (behind st (c .slot)) x, le-leb (behind st (c .slot)) (2 ^ 31) y))),
   )
 
   -- Number 4, exactly: it is more than that behind.

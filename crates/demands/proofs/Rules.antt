@@ -38,7 +38,8 @@ unfolding fewest
 fewest-chosen live n t a i a< i< e = chosen-same (in-column live n t) (λ x x<. sizes-row live x)
     (choice-chosen (has (column live n t)) (λ x. getD (sizes live) x 0) n a a< i i< (in-column live n t i i< ∙ e))
 
-pub winner-chosen : (live : List ℕ) (n t a i : ℕ) → a < n → i < n → asks live i t ≡ true → asks live a t ≡ false → FewestRequests live n t a (winner live n t a)
+pub winner-chosen : (live : List ℕ) (n t a i : ℕ) → a < n → i < n → asks live i t ≡ true → asks live a t ≡ false
+    → FewestRequests live n t a (winner live n t a)
 unfolding winner
 winner-chosen live n t a i a< i< e f = rw f (fewest-chosen live n t a i a< i< e)
 
@@ -51,7 +52,8 @@ module _ (st : State) where
 
   module _ (live : List ℕ) (rows : st .ports ≤ length live) where
     -- Rule 6: target t grants the asker with the fewest requests.
-    pub grants-chosen : (t i : ℕ) → t < st .ports → i < st .ports → asks live i t ≡ true → FewestRequests live (st .ports) t (targetStart st t) (getD (grants st live) t 0)
+    pub grants-chosen : (t i : ℕ) → t < st .ports → i < st .ports → asks live i t ≡ true
+        → FewestRequests live (st .ports) t (targetStart st t) (getD (grants st live) t 0)
     unfolding grants
     grants-chosen t i t< i< e = rw (row-tabled (length live) (λ t. fewest live (st .ports) t (targetStart st t)) (st .ports) t t< (omega arith))
         (fewest-chosen live (st .ports) t (targetStart st t) i (turned-below _ _ _ _ (omega arith)) i< e)
@@ -65,7 +67,8 @@ module _ (st : State) where
     in-offers i t = has-gathered (granted st live i) (st .ports) t
 
     -- Rule 6: initiator i accepts the granting target with the fewest askers.
-    pub accepted-chosen : (i t : ℕ) → t < st .ports → granted st live i t ≡ true → FewestAskers st live i (accepted st (askers st live) (offers st live (grants st live) i) i)
+    pub accepted-chosen : (i t : ℕ) → t < st .ports → granted st live i t ≡ true
+        → FewestAskers st live i (accepted st (askers st live) (offers st live (grants st live) i) i)
     unfolding accepted
     accepted-chosen i t t< e = chosen-same (in-offers i) askers-row (choice-chosen (has (offers st live (grants st live) i)) (λ x. getD (sizes (askers st live)) x 0)
         (st .ports) (initiatorStart st i) (turned-below _ _ _ _ (omega arith)) t t< (in-offers i t t< ∙ e))

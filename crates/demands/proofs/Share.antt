@@ -1,20 +1,26 @@
 -- Demand 3, the share. A waiting pair is connected when it is the favoured one, so it is connected each time its turn comes.
 use mathlib.Core.Path.{_≡_, sym, _∙_, subst₂}
+use mathlib.Core.Logic.{⊎-elim}
 use mathlib.Core.Bool.{true, true≢false}
 use mathlib.Core.List.{List}
-use Prim.Native.Nat.{ℕ, _*_, _/_, _≤_, _<_}
+use Prim.Native.Nat.{ℕ, _≤_, _<_}
 use lib.ListN.{length}
 use borrow.Author.Tests.{eqb-true, eqb-false}
 use Rattle.laws.specs.Sets.{asks}
+use Rattle.laws.proofs.Tests.{refuted}
 use Rattle.laws.proofs.Members.{asks-row}
+use Rattle.lcf.specs.Heard.{counted}
 use Rattle.lcf.specs.Slot.{start, matched}
 use Rattle.lcf.specs.declared.state.State.{State}
 use Rattle.lcf.specs.declared.state.Mode.{Mode}
 use Rattle.lcf.specs.declared.work.Work.{Work}
-use Rattle.demands.specs.Origin.{Live}
-use Rattle.demands.specs.Call.{Call, next, served}
-use Rattle.demands.specs.History.{Below, howMany, InEach, Fair}
+use Rattle.demands.specs.Origin.{Live, Alone}
+use Rattle.demands.specs.Call.{Call, next, sets, served}
+use Rattle.demands.specs.History.{Below, howMany, InEach, quota, Fair}
 use Rattle.demands.specs.Share.{connects, Waits, Waiting}
+use Rattle.demands.specs.Hosts.{HostWaits}
+use Rattle.demands.proofs.Hosts.{counted-asks, asks-counted}
+use Rattle.demands.proofs.Connections.{nothing-from-nowhere}
 use Rattle.demands.proofs.Join.{held-still, held-now}
 use Rattle.demands.proofs.Keeps.{mode-favours}
 use Rattle.demands.proofs.Stage.{start-rows, start-live}
@@ -63,8 +69,22 @@ tables-fair m i t = record {
       rw (e, r .sets-matched) (subst₂ (λ x y. asks (matched st (c .mode) (c .req) (c .pre) .work .held) x y ≡ true) ei et hit);
 }
 
--- Of W served calls in a history, in each of which the pair (i, t) waits, at least W / n² connect it. Declined calls may stand between them,
+-- Of W served calls in a history, in each of which the pair (i, t) waits, W / n² or more connect it. Declined calls may stand between them,
 -- modes and limits may change from call to call, and the history may begin at any state with offsets below n.
 pub share : (m i t : ℕ) (st : State) (calls : List Call) → Below st → i < st .ports → t < st .ports → InEach (next m) (served m) (Waiting i t) st calls
-    → howMany (next m) (served m) st calls / (st .ports * st .ports) ≤ howMany (next m) (connects m i t) st calls
+    → quota (st .ports) (howMany (next m) (served m) st calls) ≤ howMany (next m) (connects m i t) st calls
 share m i t = fair-share (tables-fair m i t)
+
+-- And when it is connected, it is all that its initiator holds.
+pub waiting-alone : (m : ℕ) (st : State) (c : Call) (i t : ℕ) → Waiting i t st c → asks (sets m st c) i t ≡ true → Alone (sets m st c) i t
+waiting-alone m st c i t w e = ⊎-elim (λ given. absurd (true≢false (sym (given .claimant .asks-too) ∙ w .plans-nothing t (given .target)))) (λ live. live .1)
+    (nothing-from-nowhere m st c i t e)
+
+-- A host that waits, waits in the tables that count by rules 1 and 2.
+pub hosts-wait : (n heard : ℕ) (ben req pre : List ℕ) (i t : ℕ) → i < n → HostWaits n heard ben req pre i t
+    → Waits n (counted n heard ben req) (counted n heard ben pre) i t
+hosts-wait n heard ben req pre i t i< w = record {
+  asked = asks-counted n heard ben req i t i< (w .here) (w .asked);
+  plans-nothing = λ u u<. refuted _ (λ e. true≢false (sym (counted-asks n heard ben pre i u e .1) ∙ w .plans-nothing u u<));
+  unplanned = λ h h<. refuted _ (λ e. let (x, y) = counted-asks n heard ben pre h t e in true≢false (sym y ∙ w .unplanned h h< x));
+}

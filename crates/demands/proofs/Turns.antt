@@ -12,7 +12,7 @@ use borrow.Author.Tests.{ne-eqb}
 use Rattle.laws.proofs.Tests.{arms}
 use Rattle.lcf.specs.Advance.{advance}
 use Rattle.lcf.specs.declared.state.State.{State}
-use Rattle.demands.specs.History.{Below, howMany, InEach, Fair}
+use Rattle.demands.specs.History.{Below, howMany, InEach, quota, Fair}
 
 -- ---- the offsets as one number
 
@@ -105,7 +105,8 @@ comes-nearer N p p′ q d q< (d<, inl a) (inr e) = absurd (omega arith)
 comes-nearer N p p′ q d q< (d<, inr a) (inl e) = (omega arith, inr (omega arith))
 comes-nearer N p p′ q d q< (d<, inr a) (inr e) = (omega arith, inl (omega arith))
 
-module _ {C : Type 0} {next : State → C → State} {served connects : State → C → Bool} {Waiting : State → C → Type 0} {i t : ℕ} (fair : Fair next served connects Waiting i t) where
+module _ {C : Type 0} {next : State → C → State} {served connects : State → C → Bool} {Waiting : State → C → Type 0} {i t : ℕ}
+    (fair : Fair next served connects Waiting i t) where
   -- with the pair's turn d turns ahead
   bound : (n : ℕ) → i < n → t < n → (calls : List C) (st : State) (d : ℕ) → st .ports ≡ n → Below st → Ahead (n * n) (turn st) (t * n + i) d
       → InEach next served Waiting st calls → howMany next served st calls ≤ howMany next connects st calls * (n * n) + d
@@ -154,13 +155,14 @@ module _ {C : Type 0} {next : State → C → State} {served connects : State �
               rw hit (omega (arith, later (n * n - 1) (comes-again (n * n) (turn st) _ q here< here follows)))
           come (suc d) a = omega (arith, later d (comes-nearer (n * n) (turn st) _ q d q< a follows))
 
-  -- of W served calls, in each of which the pair waits, at least W / n² connect it
+  -- of W served calls, in each of which the pair waits, W / n² or more connect it
   pub fair-share : (st : State) (calls : List C) → Below st → i < st .ports → t < st .ports → InEach next served Waiting st calls
-      → howMany next served st calls / (st .ports * st .ports) ≤ howMany next connects st calls
+      → quota (st .ports) (howMany next served st calls) ≤ howMany next connects st calls
   fair-share st calls b i< t< w =
       let q< = turn-below (st .ports) i t i< t< in
-      let (d, a) = ahead (st .ports * st .ports) (turn st) (t * st .ports + i) (turn-in st b) q< in
+      let N = st .ports * st .ports in
+      let (d, a) = ahead N (turn st) (t * st .ports + i) (turn-in st b) q< in
       let most = bound (st .ports) i< t< calls st d refl b a w in
-      let some : 0 < st .ports * st .ports = omega arith in
-      let less : howMany next served st calls < (howMany next connects st calls + 1) * (st .ports * st .ports) = omega arith in
+      let some : 0 < N = omega arith in
+      let less : howMany next served st calls < (howMany next connects st calls + 1) * N = omega arith in
       omega (arith, div-lt-iff-lt-mul some .1 less)

@@ -2,7 +2,7 @@
 use mathlib.Core.Path.{_≡_}
 use mathlib.Core.Bool.{Bool, true, false, cond}
 use mathlib.Core.List.{List, [], _∷_}
-use Prim.Native.Nat.{ℕ, _+_, _<_}
+use Prim.Native.Nat.{ℕ, _+_, _*_, _/_, _<_}
 use Rattle.lcf.specs.Advance.{advance}
 use Rattle.lcf.specs.declared.state.State.{State}
 
@@ -20,6 +20,10 @@ howMany next p st (c ∷ calls) = cond (p st c) 1 0 + howMany next p (next st c)
 unfoldable pub InEach : {C : Type 0} → (State → C → State) → (State → C → Bool) → (State → C → Type 0) → State → List C → Type 0
 InEach next p Q st [] = Unit {0}
 InEach next p Q st (c ∷ calls) = (p st c ≡ true → Q st c) × InEach next p Q (next st c) calls
+
+-- the share of one pair of n² in so many slots
+abbrev pub quota : ℕ → ℕ → ℕ
+quota n slots = slots / (n * n)
 
 -- what the share of the pair (i, t) asks of a kind of call: a declined call keeps the state, a served one advances it (rule 7),
 -- and a served call connects the pair if it waits and is the favoured one

@@ -4,7 +4,6 @@ use mathlib.Core.Bool.{Bool, true, false, _&&_}
 use mathlib.Core.List.{List}
 use Prim.Native.Nat.{ℕ, _<_}
 use Rattle.laws.specs.Sets.{asks}
-use Rattle.lcf.specs.Heard.{present}
 use Rattle.lcf.specs.declared.state.State.{State}
 use Rattle.demands.specs.Call.{Call, sets, served}
 
@@ -21,10 +20,3 @@ pub record Waits (n : ℕ) (req pre : List ℕ) (i t : ℕ) : Type 0 where
 -- the pair waits in a call
 abbrev pub Waiting : ℕ → ℕ → State → Call → Type 0
 Waiting i t st c = Waits (st .ports) (c .req) (c .pre) i t
-
--- the same of what the hosts send: host i is heard and enabled, asks for t and plans nothing, and no enabled heard host plans t
-pub record HostWaits (n heard : ℕ) (ben req pre : List ℕ) (i t : ℕ) : Type 0 where
-  pub here : present n heard ben i ≡ true
-  pub asked : asks req i t ≡ true
-  pub plans-nothing : (u : ℕ) → u < n → asks pre i u ≡ false
-  pub unplanned : (h : ℕ) → h < n → present n heard ben h ≡ true → asks pre h t ≡ false
