@@ -3,11 +3,11 @@ use mathlib.Core.Path.{_≡_, refl, sym, ap, _∙_}
 use mathlib.Core.Bool.{Bool, true, false, not, _&&_, _||_, cond, true≢false}
 use Prim.Native.Nat.{ℕ, suc, _+_, _-_, _%_, _≤_, _<_}
 use native.Mathlib.Nat.{add-mod-right, mod-eq-of-lt, mod-lt}
-use native.Mathlib.Decide.{decLe, decLt, ℕ-discrete}
+use native.Mathlib.Decide.{decLe, decLt}
 use native.Mathlib.Omega.{arith}
 use lib.Dec.{ltb}
 use borrow.Author.Tests.{ltb-true, ltb-false}
-use Rattle.laws.proofs.Steps.{kept}
+use Rattle.laws.proofs.Steps.{upto, kept}
 use Rattle.lcf.specs.Choice.{place, better, choice}
 use Rattle.demands.specs.Choice.{Chosen}
 use Rattle.demands.proofs.Keeps.{first-place}
@@ -51,23 +51,15 @@ module _ (p : ℕ → Bool) (f : ℕ → ℕ) (n a : ℕ) (a< : a < n) where
   goes-on : (k b : ℕ) → k < n → Best k b → Best (suc k) (better p f (place n a k) b)
   goes-on k b k< h = go (step (place n a k) b)
     where
-      -- what holds of the places before k and at k
-      upto : (Q : ℕ → Type 0) → ((j : ℕ) → j < k → Q j) → Q k → (j : ℕ) → j < suc k → Q j
-      upto Q before now j l = at (ℕ-discrete j k)
-        where
-          at : Dec (j ≡ k) → Q j
-          at (yes e) = rw e now
-          at (no e) = before j (omega arith)
-
       Least : ℕ → ℕ → Type 0
       Least r j = p (place n a j) ≡ true → (p r ≡ true) × (f r ≤ f (place n a j))
 
       stay : Least b k → Best (suc k) b
-      stay now = record { least = upto (Least b) (h .least) now; turn = h .turn; turn-below = h .turn-below; in-turn = h .in-turn; first = h .first }
+      stay now = record { least = upto (Least b) k (h .least) now; turn = h .turn; turn-below = h .turn-below; in-turn = h .in-turn; first = h .first }
 
       go : {r : ℕ} → Step (place n a k) b r → Best (suc k) r
       go (takes has less) = record {
-        least = upto (Least (place n a k)) (λ j l e. let (x, y) = h .least j l e in (has, omega (arith, less x))) (λ e. (has, omega arith));
+        least = upto (Least (place n a k)) k (λ j l e. let (x, y) = h .least j l e in (has, omega (arith, less x))) (λ e. (has, omega arith));
         turn = k;
         turn-below = k<;
         in-turn = refl;

@@ -3,7 +3,8 @@ use mathlib.Core.Path.{_≡_, sym, _∙_}
 use mathlib.Core.Logic.{_⊎_, inl, inr, ⊎-elim}
 use mathlib.Core.Bool.{true}
 use mathlib.Core.List.{List}
-use Prim.Native.Nat.{ℕ}
+use Prim.Native.Nat.{ℕ, _<_}
+use lib.ListN.{length}
 use Rattle.laws.specs.Sets.{asks}
 use Rattle.lcf.specs.Join.{join}
 use Rattle.lcf.specs.Slot.{start, matched}
@@ -12,9 +13,9 @@ use Rattle.lcf.specs.declared.state.Mode.{Mode}
 use Rattle.lcf.specs.declared.work.Work.{Work}
 use Rattle.demands.specs.Origin.{Given, Live, Alone}
 use Rattle.demands.proofs.Choice.{chosen-once}
-use Rattle.demands.proofs.Join.{live-left, held-cases}
+use Rattle.demands.proofs.Join.{live-left, held-cases, held-still}
 use Rattle.demands.proofs.Keeps.{mode-keeps}
-use Rattle.demands.proofs.Stage.{start-held, start-live}
+use Rattle.demands.proofs.Stage.{start-held, given-held, start-live}
 
 -- nothing live shares a row or a column with what is held
 record Settled (s : Work) : Type 0 where
@@ -93,6 +94,11 @@ module _ (st : State) (req pre : List ℕ) where
   }
 
   -- ---- in every mode
+
+  pub matched-given : (mode : Mode) (i t : ℕ) → i < length req → Given st pre i t → asks (matched st mode req pre .work .held) i t ≡ true
+  unfolding matched
+  matched-given mode i t row g = mode-keeps (λ u. asks (u .held) i t ≡ true) (λ u w c l. held-still u w c i t) st mode (start st req pre)
+      (given-held st req pre i t row g)
 
   pub matched-once : (mode : Mode) (i j t : ℕ) → asks (matched st mode req pre .work .held) i t ≡ true
       → asks (matched st mode req pre .work .held) j t ≡ true → i ≡ j

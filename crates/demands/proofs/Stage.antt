@@ -4,11 +4,11 @@ use mathlib.Core.Logic.{⊎-elim, _≢_, _↔_}
 use mathlib.Core.Bool.{true, false, true≢false}
 use mathlib.Core.List.{List}
 use Prim.Native.Nat.{ℕ, suc, _%_, _^_, _<_}
-use native.Mathlib.Decide.{ℕ-discrete}
 use native.Mathlib.Omega.{arith}
 use lib.ListN.{length, getD, replicate, length-replicate}
 use Rattle.laws.specs.Sets.{has, asks}
 use Rattle.laws.proofs.Tests.{same}
+use Rattle.laws.proofs.Steps.{upto}
 use Rattle.laws.proofs.Members.{has-below, below-has, asks-row, asks-empty, row-tabled, tabled-asks}
 use Rattle.lcf.specs.Join.{join}
 use Rattle.lcf.specs.Planned.{planner, planned}
@@ -18,7 +18,7 @@ use Rattle.lcf.specs.declared.work.Work.{Work}
 use Rattle.demands.specs.Origin.{Given, Live}
 use Rattle.demands.proofs.Choice.{chosen-once, chosen-same}
 use Rattle.demands.proofs.Rules.{planner-chosen}
-use Rattle.demands.proofs.Join.{live-left, left-live, held-cases, held-length}
+use Rattle.demands.proofs.Join.{live-left, left-live, held-cases, held-still, held-now, held-length}
 use Rattle.demands.proofs.Keeps.{planned-keeps}
 
 -- ---- rows and bits at or above n are ignored
@@ -42,23 +42,21 @@ module _ (st : State) (pre : List ℕ) where
   abbrev Goes : ℕ → Type 0
   Goes u = asks pre (planner st pre u) u ≡ true
 
-  -- of the targets below k, none goes to i, and none that goes is t
-  abbrev Untouched : ℕ → ℕ → ℕ → Type 0
-  Untouched k i t = (u : ℕ) → u < k → Goes u → (planner st pre u ≢ i) × (u ≢ t)
+  -- if it goes, then not to i, and it is not t
+  abbrev Avoids : ℕ → ℕ → ℕ → Type 0
+  Avoids i t u = Goes u → (planner st pre u ≢ i) × (u ≢ t)
+
+  -- if it goes, then the table has it, if it has the row
+  abbrev Held : Work → List ℕ → ℕ → Type 0
+  Held first held u = Goes u → planner st pre u < length (first .held) → asks held (planner st pre u) u ≡ true
 
   -- when the targets below k have been given
   record Staged (first : Work) (k : ℕ) (s : Work) : Type 0 where
     held-goes : (i t : ℕ) → asks (s .held) i t ≡ true → (t < k) × Goes t × (planner st pre t ≡ i)
-    live-open : (i t : ℕ) → asks (s .live) i t ≡ true → (asks (first .live) i t ≡ true) × Untouched k i t
-    open-live : (i t : ℕ) → asks (first .live) i t ≡ true → Untouched k i t → asks (s .live) i t ≡ true
+    goes-held : (u : ℕ) → u < k → Held first (s .held) u
+    live-open : (i t : ℕ) → asks (s .live) i t ≡ true → (asks (first .live) i t ≡ true) × ((u : ℕ) → u < k → Avoids i t u)
+    open-live : (i t : ℕ) → asks (first .live) i t ≡ true → ((u : ℕ) → u < k → Avoids i t u) → asks (s .live) i t ≡ true
     rows : length (s .held) ≡ length (first .held)
-
-  one-more : (k i t : ℕ) → Untouched k i t → (Goes k → (planner st pre k ≢ i) × (k ≢ t)) → Untouched (suc k) i t
-  one-more k i t before now u h = go (ℕ-discrete u k)
-    where
-      go : Dec (u ≡ k) → Goes u → (planner st pre u ≢ i) × (u ≢ t)
-      go (yes e) = rw e now
-      go (no e) = before u (omega arith)
 
   gives : (first : Work) (k : ℕ) (s : Work) → k < st .ports → Goes k → Staged first k s → Staged first (suc k) (join s (planner st pre k) k)
   gives first k s k< goes h = record {
@@ -66,10 +64,12 @@ module _ (st : State) (pre : List ℕ) where
         (λ old. let (a, b, c) = h .held-goes i t old in (omega arith, b, c))
         (λ new. (omega arith, rw (new .1) goes, rw (new .1) (sym (new .0))))
         (held-cases s w k i t e);
+    goes-held = upto (Held first (join s w k .held)) k
+        (λ u u< g r. held-still s w k _ u (h .goes-held u u< g r)) (λ g r. held-now s w k (rw (h .rows) r));
     live-open = λ i t e.
         let l = live-left s w k i t e in
         let (a, b) = h .live-open i t (l .was) in
-        (a, one-more k i t b (λ g. (λ q. l .other-row (sym q), λ q. l .other-column (sym q))));
+        (a, upto (Avoids i t) k b (λ g. (λ q. l .other-row (sym q), λ q. l .other-column (sym q))));
     open-live = λ i t a b. left-live s w k i t (record {
       was = h .open-live i t a (λ u u<. b u (omega arith));
       other-row = λ q. b k (omega arith) goes .0 (sym q);
@@ -84,7 +84,8 @@ module _ (st : State) (pre : List ℕ) where
   skips : (first : Work) (k : ℕ) (s : Work) → asks pre (planner st pre k) k ≡ false → Staged first k s → Staged first (suc k) s
   skips first k s e h = record {
     held-goes = λ i t x. let (a, b, c) = h .held-goes i t x in (omega arith, b, c);
-    live-open = λ i t x. let (a, b) = h .live-open i t x in (a, one-more k i t b (λ g. absurd (true≢false (sym g ∙ e))));
+    goes-held = upto (Held first (s .held)) k (h .goes-held) (λ g. absurd (true≢false (sym g ∙ e)));
+    live-open = λ i t x. let (a, b) = h .live-open i t x in (a, upto (Avoids i t) k b (λ g. absurd (true≢false (sym g ∙ e))));
     open-live = λ i t a b. h .open-live i t a (λ u u<. b u (omega arith));
     rows = h .rows;
   }
@@ -92,6 +93,7 @@ module _ (st : State) (pre : List ℕ) where
   staged : (first : Work) → ((i t : ℕ) → asks (first .held) i t ≡ true → ⊥) → Staged first (st .ports) (planned st pre first)
   staged first none = planned-keeps (Staged first) st pre first (gives first) (skips first) (record {
     held-goes = λ i t e. absurd (none i t e);
+    goes-held = λ t h. absurd (omega arith);
     live-open = λ i t e. (e, λ u h. absurd (omega arith));
     open-live = λ i t e b. e;
     rows = refl;
@@ -122,6 +124,12 @@ module _ (st : State) (req pre : List ℕ) where
   start-held i t e =
       let (t<, goes, q) = stage .held-goes i t e in
       rw q at (goes-given t goes)
+
+  -- and what was given is held
+  pub given-held : (i t : ℕ) → i < length req → Given st pre i t → asks (start st req pre .held) i t ≡ true
+  given-held i t row g =
+      let (goes, q) = given-goes i t g in
+      rw q at (stage .goes-held t (g .target) goes (rw (q, length-replicate) row))
 
   pub start-rows : length (start st req pre .held) ≡ length req
   start-rows = stage .rows ∙ length-replicate (length req) 0

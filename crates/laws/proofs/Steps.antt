@@ -1,7 +1,17 @@
 -- What the steps of a "for k = 0 to n - 1" keep.
+use mathlib.Core.Path.{_≡_}
 use Prim.Native.Nat.{ℕ, zero, suc, _≤_, _<_}
+use native.Mathlib.Decide.{ℕ-discrete}
 use native.Mathlib.Omega.{arith}
 use Rattle.laws.specs.Steps.{steps}
+
+-- what holds below k, and of k
+pub upto : (Q : ℕ → Type 0) (k : ℕ) → ((j : ℕ) → j < k → Q j) → Q k → (j : ℕ) → j < suc k → Q j
+upto Q k before now j h = go (ℕ-discrete j k)
+  where
+    go : Dec (j ≡ k) → Q j
+    go (yes e) = rw e now
+    go (no e) = before j (omega arith)
 
 module _ {A : Type 0} (f : ℕ → A → A) (x : A) where
   -- P k holds after k steps
