@@ -1,7 +1,10 @@
 pub mod Branches
 pub mod Bytes
 pub mod Loops
+pub mod Members
 pub mod Parts
 pub mod Rows
+pub mod Steps
+pub mod Tests
 pub mod Unique
 pub mod Words

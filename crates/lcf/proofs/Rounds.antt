@@ -2,6 +2,7 @@
 use mathlib.Core.Path.{_≡_, _∙_}
 use mathlib.Core.List.{List}
 use Prim.Native.Nat.{ℕ, _≤_, _<_}
+use native.Mathlib.Omega.{arith}
 use lib.ListN.{length, getD}
 use Rattle.laws.specs.Sets.{has, column, sizes, tabled}
 use Rattle.laws.proofs.Rows.{row-tabled, same-rows, all-rows}
@@ -21,4 +22,4 @@ module _ (st : State) (asked counts : List ℕ) where
   unfolding askers grants fewest
   granted live m k p h q s e l g =
       all-rows m granting (st .ports) k (length live) p e l g
-      ∙ same-rows (length live) (st .ports) _ _ (λ t b. rw (s, q, row-tabled (length live) (column live (st .ports)) (st .ports) t b (rw p h)))
+      ∙ same-rows (length live) (st .ports) _ _ (λ t b. rw (s, q, row-tabled (length live) (column live (st .ports)) (st .ports) t b (omega arith)))

@@ -1,0 +1,76 @@
+-- Refusal: what a declined call leaves, and which slots are declined with 3 and 4.
+use mathlib.Core.Path.{_≡_, refl, _∙_}
+use mathlib.Core.Logic.{_⊎_, inl, inr, _↔_}
+use Prim.Native.Nat.{ℕ, _^_, _≤_, _<_}
+use native.Mathlib.Decide.{decLe}
+use native.Mathlib.Omega.{arith}
+use borrow.Author.Tests.{lt-ltb, le-leb, lt-leb}
+use Rattle.lcf.specs.Advance.{advance}
+use Rattle.lcf.specs.Slot.{behind, declined}
+use Rattle.lcf.specs.declared.state.State.{State}
+use Rattle.demands.specs.Call.{Call, called, next, number}
+use Rattle.demands.specs.Refusal.{InOrder, Nothing}
+use Rattle.demands.proofs.Calls.{means, ordered, call-cases, due-exactly, served-call}
+use Rattle.demands.proofs.Turns.{advance-below, advance-ports}
+
+module _ (m : ℕ) (st : State) (c : Call) where
+  -- A declined call leaves the state as it was and connects nobody.
+  pub declined-does-nothing : (number m st c ≡ 0 → ⊥) → Nothing m st (called m st c)
+  unfolding declined
+  declined-does-nothing = call-cases m st c (λ r. (r .answer .number ≡ 0 → ⊥) → Nothing m st r) (λ z ne. absurd (ne refl))
+      (λ x ne why e. record { state-kept = refl; no-sets = refl; no-rounds = refl })
+
+  -- Number 3, exactly: the slot is from 1 to 2147483648 behind the one due.
+  pub stale : (number m st c ≡ 3) ↔ (InOrder m st × (1 ≤ behind st (c .slot)) × (behind st (c .slot) ≤ 2 ^ 31))
+  stale = (
+    λ e. let d = due-exactly m st c 3 (λ q. omega arith) (λ q. omega arith) .0 e in
+        let (x, y) = means m st c .stale d in
+        (means m st c .in-order (λ q. omega arith) (λ q. omega arith), x, y),
+    λ (o, x, y). due-exactly m st c 3 (λ q. omega arith) (λ q. omega arith) .1
+        (ordered m st c o 3 (rw (le-leb 1 (behind st (c .slot)) x, le-leb (behind st (c .slot)) (2 ^ 31) y))),
+  )
+
+  -- Number 4, exactly: it is more than that behind.
+  pub early : (number m st c ≡ 4) ↔ (InOrder m st × (2 ^ 31 < behind st (c .slot)))
+  early = (
+    λ e. let d = due-exactly m st c 4 (λ q. omega arith) (λ q. omega arith) .0 e in
+        (means m st c .in-order (λ q. omega arith) (λ q. omega arith), means m st c .early d),
+    λ (o, x). due-exactly m st c 4 (λ q. omega arith) (λ q. omega arith) .1
+        (ordered m st c o 4 (rw (le-leb 1 (behind st (c .slot)) (omega arith), lt-leb (behind st (c .slot)) (2 ^ 31) x, lt-ltb (2 ^ 31) (behind st (c .slot)) x))),
+  )
+
+  module _ (slot< : c .slot < 2 ^ 32) (due< : st .due < 2 ^ 32) where
+    not-behind : behind st (c .slot) ≡ 0 → c .slot ≡ st .due
+    unfolding behind
+    not-behind e = omega arith
+
+    -- Only the slot that is due is served.
+    pub served-when-due : number m st c ≡ 0 → c .slot ≡ st .due
+    served-when-due e = not-behind (served-call m st c e .on-time)
+
+    -- With the state in order, any other is declined with 3 or 4.
+    pub other-declined : InOrder m st → (c .slot ≡ st .due → ⊥) → (number m st c ≡ 3) ⊎ (number m st c ≡ 4)
+    other-declined o other = go (decLe (behind st (c .slot)) (2 ^ 31))
+      where
+        some : behind st (c .slot) ≡ 0 → ⊥
+        some e = other (not-behind e)
+
+        go : Dec (behind st (c .slot) ≤ 2 ^ 31) → (number m st c ≡ 3) ⊎ (number m st c ≡ 4)
+        go (yes h) = inl (stale .1 (o, omega (arith, some), h))
+        go (no h) = inr (early .1 (o, omega arith))
+
+advance-in-order : (m : ℕ) (st : State) → InOrder m st → InOrder m (advance st)
+advance-in-order m st o =
+    record { some-port = rw (advance-ports st) (o .some-port); most-ports = rw (advance-ports st) (o .most-ports); offsets = advance-below st (o .offsets) }
+
+one-behind : (st : State) (slot : ℕ) → st .due < 2 ^ 32 → slot ≡ st .due → behind (advance st) slot ≡ 1
+unfolding behind advance
+one-behind st slot due< e = omega arith
+
+-- A slot that was served is declined with 3 when it comes again, whatever the mode and the tables.
+pub resent-stale : (m : ℕ) (st : State) (c again : Call) → c .slot < 2 ^ 32 → st .due < 2 ^ 32
+    → number m st c ≡ 0 → again .slot ≡ c .slot → number m (next m st c) again ≡ 3
+resent-stale m st c again slot< due< e same =
+    let s = served-call m st c e in
+    let b = one-behind st (again .slot) due< (same ∙ served-when-due m st c slot< due< e) in
+    rw (s .advances) (stale m (advance st) again .1 (advance-in-order m st (s .in-order), omega arith, omega arith))
