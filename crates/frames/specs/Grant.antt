@@ -31,8 +31,11 @@ bit b = cond b 1 0
 abbrev pub flagsOf : Grant → ℕ
 flagsOf g = bit (g .gntval) + 2 * bit (g .linkerr) + 4 * bit (g .crcerr)
 
+abbrev pub grantBody : Grant → List ℕ
+grantBody g = (g .nodeid * 16 + g .gnt) ∷ flagsOf g ∷ []
+
 unfoldable pub grantFrame : Grant → List ℕ
-grantFrame g = sealed grantType ((g .nodeid * 16 + g .gnt) ∷ flagsOf g ∷ [])
+grantFrame g = sealed grantType (grantBody g)
 
 unfoldable pub grantOf : List ℕ → Grant
 grantOf body =
