@@ -1,7 +1,7 @@
 -- Frames of any length and type: a list of bytes opens with 0 exactly if it is sealed, byte for byte.
 use mathlib.Core.Path.{_≡_, refl, sym, ap, _∙_}
 use mathlib.Core.Bool.{Bool, true, false, not, cond}
-use mathlib.Core.List.{List, [], _∷_, _++_}
+use mathlib.Core.List.{List, _∷_}
 use Prim.Native.Nat.{ℕ, suc, _+_, _-_, _≤_, _<_}
 use native.Mathlib.Omega.{arith}
 use borrow.Author.Tests.{eq-eqb, eqb-true}
@@ -11,7 +11,7 @@ use lib.Seq.{length-take-le, take-all, take-at, drop-at, drop-cons}
 use Rattle.laws.specs.Bytes.{Bytes, bigEndian, number}
 use Rattle.laws.proofs.Bytes.{length-big, number-big, big-number, bytes-drop, bytes-take}
 use Rattle.frames.specs.Check.{crcOf}
-use Rattle.frames.specs.Frame.{sealed, bodyOf, formNumber, formAnswer, Answer, answered, written}
+use Rattle.frames.specs.Frame.{sealed, bodyOf, formNumber, formAnswer, answered, written}
 use Rattle.frames.specs.declared.frame.Form.{Form}
 use Rattle.frames.proofs.CheckLaws.{crc-small}
 
@@ -74,7 +74,7 @@ body-bytes len s bytes = bytes-take (len - 3) (drop 1 s) (bytes-drop 1 s bytes)
 pub body-long : (len : ℕ) (s : List ℕ) → length s ≡ len → length (bodyOf len s) ≡ len - 3
 body-long len s long = length-take-le (len - 3) (drop 1 s) (simp length-drop (omega arith))
 
--- a reader's answer has number 0 and fields f exactly if its number is 0 and f is what was read
+-- the fields of a reader's answer with number 0 are what was read
 pub answered-zero : {A : Type 0} (k : ℕ) (x z f : A) → answered k x z ≡ record { number = 0; fields = f } → (k ≡ 0) × (x ≡ f)
 answered-zero k x z f e =
     let none : k ≡ 0 = ap (λ a. a .number) e in

@@ -10,7 +10,7 @@ use lib.Dec.{eqb, leb, eqb·suc-zero, lit≤}
 use lib.ListN.{length}
 use Rattle.laws.specs.Sets.{has}
 use Rattle.laws.specs.Bytes.{Bytes, bigEndian}
-use Rattle.frames.specs.Grant.{grantLen, grantType, agrees, inForm, bit, flagsOf, grantBody, grantFrame, grantOf, bodyInForm, noGrant, grantAnswer, grantNumber, readGrant, writeGrant}
+use Rattle.frames.specs.Grant.{grantLen, grantType, agrees, inForm, bit, flags, grantBody, grantFrame, grantOf, bodyInForm, noGrant, grantAnswer, grantNumber, readGrant, writeGrantNumber}
 use Rattle.frames.specs.Frame.{sealed, bodyOf, formNumber, roomNumber}
 use Rattle.frames.specs.declared.grant.Grant.{Grant}
 use Rattle.frames.specs.declared.grant.GrantRead.the-variants.{Frame}
@@ -32,33 +32,30 @@ in-form-small g e =
     (leb-true _ _ (p .0), leb-true _ _ (q .0))
 
 -- three flags, to a number and back
-flags-of : (g : Grant) → (leb (flagsOf g) 7 ≡ true) × (has (flagsOf g) 0 ≡ g .gntval) × (has (flagsOf g) 1 ≡ g .linkerr) × (has (flagsOf g) 2 ≡ g .crcerr)
-flags-of g = go (g .gntval) (g .linkerr) (g .crcerr)
-  where
-    go : (a b c : Bool) → let f = bit a + 2 * bit b + 4 * bit c in (leb f 7 ≡ true) × (has f 0 ≡ a) × (has f 1 ≡ b) × (has f 2 ≡ c)
-    go true true true = (refl, refl, refl, refl)
-    go true true false = (refl, refl, refl, refl)
-    go true false true = (refl, refl, refl, refl)
-    go true false false = (refl, refl, refl, refl)
-    go false true true = (refl, refl, refl, refl)
-    go false true false = (refl, refl, refl, refl)
-    go false false true = (refl, refl, refl, refl)
-    go false false false = (refl, refl, refl, refl)
+flags-read : (a b c : Bool) → (leb (flags a b c) 7 ≡ true) × (has (flags a b c) 0 ≡ a) × (has (flags a b c) 1 ≡ b) × (has (flags a b c) 2 ≡ c)
+flags-read true true true = (refl, refl, refl, refl)
+flags-read true true false = (refl, refl, refl, refl)
+flags-read true false true = (refl, refl, refl, refl)
+flags-read true false false = (refl, refl, refl, refl)
+flags-read false true true = (refl, refl, refl, refl)
+flags-read false true false = (refl, refl, refl, refl)
+flags-read false false true = (refl, refl, refl, refl)
+flags-read false false false = (refl, refl, refl, refl)
 
 bit-eqb : (x : ℕ) → x < 2 → bit (eqb x 1) ≡ x
 bit-eqb zero h = refl
 bit-eqb (suc zero) h = refl
 bit-eqb (suc (suc x)) h = omega arith
 
-flags-back : (f : ℕ) → f ≤ 7 → bit (has f 0) + 2 * bit (has f 1) + 4 * bit (has f 2) ≡ f
-flags-back f h =
+flags-written : (f : ℕ) → f ≤ 7 → flags (has f 0) (has f 1) (has f 2) ≡ f
+flags-written f h =
     rw (bit-eqb (f / 1 % 2) (omega arith), bit-eqb (f / 2 % 2) (omega arith), bit-eqb (f / 4 % 2) (omega arith)) (omega arith)
 
 grant-of-body : (g : Grant) → inForm g ≡ true → (grantOf (grantBody g) ≡ g) × (bodyInForm (grantBody g) ≡ true)
 unfolding grantOf bodyInForm inForm
 grant-of-body g e =
     let small = in-form-small g e in
-    let f = flags-of g in
+    let f = flags-read (g .gntval) (g .linkerr) (g .crcerr) in
     let node : (g .nodeid * 16 + g .gnt) / 16 ≡ g .nodeid = omega arith in
     let gnt : (g .nodeid * 16 + g .gnt) % 16 ≡ g .gnt = omega arith in
     let same : grantOf (grantBody g) ≡ g = λ i. record { nodeid = node i; gnt = gnt i; gntval = f .1 i; linkerr = f .2 i; crcerr = f .3 i } in
@@ -74,7 +71,7 @@ body-grant-of (a ∷ f ∷ []) bytes long e =
     let byte = bytes 0 in
     let node : a / 16 ≤ 15 = omega arith in
     let gnt : a % 16 ≤ 15 = omega arith in
-    (rw (div-add-mod' a 16, flags-back f (leb-true _ _ (p .0))), rw (le-leb _ _ node, le-leb _ _ gnt) (p .1))
+    (rw (div-add-mod' a 16, flags-written f (leb-true _ _ (p .0))), rw (le-leb _ _ node, le-leb _ _ gnt) (p .1))
 
 pub grant-reads : (g : Grant) → inForm g ≡ true → readGrant (grantFrame g) ≡ grantAnswer (Frame g)
 unfolding grantFrame
@@ -100,7 +97,7 @@ grant-writes s bytes g e =
       rw (read .1) at (back .1),
     )
 
-pub write-grant-form : (g : Grant) (out : List ℕ) → writeGrant g out ≡ 0 → inForm g ≡ true
+pub write-grant-form : (g : Grant) (out : List ℕ) → writeGrantNumber g out ≡ 0 → inForm g ≡ true
 write-grant-form g out e = go (inForm g) e
   where
     go : (b : Bool) → cond b (roomNumber grantLen out) 11 ≡ 0 → b ≡ true
