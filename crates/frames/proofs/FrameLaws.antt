@@ -1,17 +1,17 @@
 -- Frames of any length and type: a list of bytes opens with 0 exactly if it is sealed, byte for byte.
 use mathlib.Core.Path.{_≡_, refl, sym, ap, _∙_}
 use mathlib.Core.Bool.{Bool, true, false, not, cond}
-use mathlib.Core.List.{List, [], _∷_, _++_}
+use mathlib.Core.List.{List, _∷_}
 use Prim.Native.Nat.{ℕ, suc, _+_, _-_, _≤_, _<_}
 use native.Mathlib.Omega.{arith}
 use borrow.Author.Tests.{eq-eqb, eqb-true}
 use lib.Dec.{eqb}
 use lib.ListN.{length, getD, take, drop, take-append-drop, length-append, length-drop}
-use lib.Seq.{take-all, take-at, drop-at, drop-cons}
+use lib.Seq.{length-take-le, take-all, take-at, drop-at, drop-cons}
 use Rattle.laws.specs.Bytes.{Bytes, bigEndian, number}
-use Rattle.laws.proofs.Bytes.{length-big, number-big, big-number, bytes-drop}
+use Rattle.laws.proofs.Bytes.{length-big, number-big, big-number, bytes-drop, bytes-take}
 use Rattle.frames.specs.Check.{crcOf}
-use Rattle.frames.specs.Frame.{sealed, bodyOf, formNumber, formAnswer}
+use Rattle.frames.specs.Frame.{sealed, bodyOf, formNumber, formAnswer, answered, written}
 use Rattle.frames.specs.declared.frame.Form.{Form}
 use Rattle.frames.proofs.CheckLaws.{crc-small}
 
@@ -67,3 +67,20 @@ sealed-form len type s least bytes e =
     let front : take (len - 2) s ≡ type ∷ bodyOf len s =
     rw more (ap (take (suc (len - 3))) (drop-cons s 0 0 some) ∙ rw (h .typed)) in
     sym (take-append-drop (len - 2) s) ∙ rw (← check, front)
+
+pub body-bytes : (len : ℕ) (s : List ℕ) → Bytes s → Bytes (bodyOf len s)
+body-bytes len s bytes = bytes-take (len - 3) (drop 1 s) (bytes-drop 1 s bytes)
+
+pub body-long : (len : ℕ) (s : List ℕ) → length s ≡ len → length (bodyOf len s) ≡ len - 3
+body-long len s long = length-take-le (len - 3) (drop 1 s) (simp length-drop (omega arith))
+
+-- the fields of a reader's answer with number 0 are what was read
+pub answered-zero : {A : Type 0} (k : ℕ) (x z f : A) → answered k x z ≡ record { number = 0; fields = f } → (k ≡ 0) × (x ≡ f)
+answered-zero k x z f e =
+    let none : k ≡ 0 = ap (λ a. a .number) e in
+    (none, rw none at (ap (λ a. a .fields) e))
+
+-- a writer that answers 0 wrote the frame
+pub written-zero : (k len : ℕ) (frame out : List ℕ) → k ≡ 0 → length frame ≡ len → take len (written k len frame out) ≡ frame
+unfolding written
+written-zero k len frame out none long = rw none (take-at frame (drop len out) len long)

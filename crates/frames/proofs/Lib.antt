@@ -2,3 +2,5 @@ pub mod CheckLaws
 pub mod FrameLaws
 pub mod ConfigLaws
 pub mod GrantLaws
+pub mod Trips
+pub mod Unique

@@ -13,15 +13,19 @@ configLen = 11
 abbrev pub configType : ℕ
 configType = 1
 
--- the fields in their order, two bytes each
+-- the bytes of a field
+abbrev pub configWidth : ℕ
+configWidth = 2
+
 abbrev pub configFields : Config → List ℕ
 configFields c = c .req ∷ c .pre ∷ c .ben ∷ c .qen ∷ []
 
 unfoldable pub configFrame : Config → List ℕ
-configFrame c = sealed configType (row 2 (configFields c))
+configFrame c = sealed configType (row configWidth (configFields c))
 
-unfoldable pub configOf : List ℕ → Config
-configOf body = record { req = field 2 body 0; pre = field 2 body 1; ben = field 2 body 2; qen = field 2 body 3 }
+-- the fields, of w bytes each, that stand in a body
+unfoldable pub configOf : ℕ → List ℕ → Config
+configOf w body = record { req = field w body 0; pre = field w body 1; ben = field w body 2; qen = field w body 3 }
 
 abbrev pub noConfig : Config
 noConfig = record { req = 0; pre = 0; ben = 0; qen = 0 }
@@ -35,11 +39,11 @@ configAnswer WrongCheck = record { number = 10; fields = noConfig }
 
 -- what reading s answers
 abbrev pub readConfig : List ℕ → Answer Config
-readConfig s = answered (formNumber configLen configType s) (configOf (bodyOf configLen s)) noConfig
+readConfig s = answered (formNumber configLen configType s) (configOf configWidth (bodyOf configLen s)) noConfig
 
 -- what writing c to an output answers, and what the output then holds
-abbrev pub writeConfig : List ℕ → ℕ
-writeConfig out = roomNumber configLen out
+abbrev pub writeConfigNumber : List ℕ → ℕ
+writeConfigNumber out = roomNumber configLen out
 
-abbrev pub configOutput : Config → List ℕ → List ℕ
-configOutput c out = written (writeConfig out) configLen (configFrame c) out
+abbrev pub writeConfigOutput : Config → List ℕ → List ℕ
+writeConfigOutput c out = written (writeConfigNumber out) configLen (configFrame c) out

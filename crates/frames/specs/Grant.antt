@@ -28,11 +28,14 @@ abbrev pub bit : Bool → ℕ
 bit b = cond b 1 0
 
 -- gntVal in bit 0, linkErr in bit 1, CRCErr in bit 2
-abbrev pub flagsOf : Grant → ℕ
-flagsOf g = bit (g .gntval) + 2 * bit (g .linkerr) + 4 * bit (g .crcerr)
+abbrev pub flags : Bool → Bool → Bool → ℕ
+flags gntval linkerr crcerr = bit gntval + 2 * bit linkerr + 4 * bit crcerr
+
+abbrev pub grantBody : Grant → List ℕ
+grantBody g = (g .nodeid * 16 + g .gnt) ∷ flags (g .gntval) (g .linkerr) (g .crcerr) ∷ []
 
 unfoldable pub grantFrame : Grant → List ℕ
-grantFrame g = sealed grantType ((g .nodeid * 16 + g .gnt) ∷ flagsOf g ∷ [])
+grantFrame g = sealed grantType (grantBody g)
 
 unfoldable pub grantOf : List ℕ → Grant
 grantOf body =
@@ -71,8 +74,8 @@ abbrev pub readGrant : List ℕ → Answer Grant
 readGrant s = answered (grantNumber s) (grantOf (bodyOf grantLen s)) noGrant
 
 -- what writing g to an output answers, 11 before 7, and what the output then holds
-abbrev pub writeGrant : Grant → List ℕ → ℕ
-writeGrant g out = cond (inForm g) (roomNumber grantLen out) 11
+abbrev pub writeGrantNumber : Grant → List ℕ → ℕ
+writeGrantNumber g out = cond (inForm g) (roomNumber grantLen out) 11
 
-abbrev pub grantOutput : Grant → List ℕ → List ℕ
-grantOutput g out = written (writeGrant g out) grantLen (grantFrame g) out
+abbrev pub writeGrantOutput : Grant → List ℕ → List ℕ
+writeGrantOutput g out = written (writeGrantNumber g out) grantLen (grantFrame g) out

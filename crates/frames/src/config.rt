@@ -2,7 +2,7 @@
 ghost use mathlib.Core.Path.{_≡_};
 ghost use Prim.Native.Nat.{_-_};
 ghost use lib.ListN.{length};
-ghost use Rattle.frames.specs.Config.{configLen, configFrame, configOf, configAnswer, readConfig, writeConfig, configOutput};
+ghost use Rattle.frames.specs.Config.{configLen, configWidth, configFrame, configOf, configAnswer, readConfig, writeConfigNumber, writeConfigOutput};
 use crate::frame::Form;
 use crate::frame::open;
 use crate::frame::put;
@@ -55,7 +55,7 @@ impl Config {
 
     fn of(body: &[u8]) -> Config
         requires { ⌜ length (now body) ≡ configLen - 3 ⌝ }
-        ensures { λ r. ⌜ r ≡ configOf (now (body .entry)) ⌝ }
+        ensures { λ r. ⌜ r ≡ configOf configWidth (now (body .entry)) ⌝ }
     {
         Config {
             req: word(body, 0),
@@ -79,7 +79,7 @@ pub fn read_config(frame: &[u8]) -> ConfigRead
 }
 
 pub fn write_config(fields: Config, out: &mut [u8]) -> u8
-    ensures { λ r. ⌜ (r ≡ writeConfig (now (out .entry))) × (now (out .exit) ≡ configOutput fields (now (out .entry))) ⌝ }
+    ensures { λ r. ⌜ (r ≡ writeConfigNumber (now (out .entry))) × (now (out .exit) ≡ writeConfigOutput fields (now (out .entry))) ⌝ }
 {
     let frame = fields.frame();
     put(&frame, out)

@@ -5,7 +5,7 @@ ghost use lib.ListN.{length};
 ghost use Rattle.laws.specs.Sets.{has};
 ghost use mathlib.Core.Bool.{cond};
 ghost use Rattle.frames.specs.Frame.{answered};
-ghost use Rattle.frames.specs.Grant.{grantLen, agrees, inForm, bit, grantFrame, grantOf, bodyInForm, noGrant, grantAnswer, readGrant, writeGrant, grantOutput};
+ghost use Rattle.frames.specs.Grant.{grantLen, agrees, inForm, bit, grantFrame, grantOf, bodyInForm, noGrant, grantAnswer, readGrant, writeGrantNumber, writeGrantOutput};
 use crate::frame::Form;
 use crate::frame::open;
 use crate::frame::put;
@@ -117,7 +117,7 @@ pub fn read_grant(frame: &[u8]) -> GrantRead
 }
 
 pub fn write_grant(g: Grant, out: &mut [u8]) -> u8
-    ensures { λ r. ⌜ (r ≡ writeGrant g (now (out .entry))) × (now (out .exit) ≡ grantOutput g (now (out .entry))) ⌝ }
+    ensures { λ r. ⌜ (r ≡ writeGrantNumber g (now (out .entry))) × (now (out .exit) ≡ writeGrantOutput g (now (out .entry))) ⌝ }
 {
     if g.in_form() {
         let frame = g.frame();

@@ -44,6 +44,12 @@ big-number s bytes (suc w) h =
 pub bytes-drop : (k : ℕ) (s : List ℕ) → Bytes s → Bytes (drop k s)
 bytes-drop k s bytes i = rw (getD-drop k s i 0) (bytes (k + i))
 
+pub bytes-take : (n : ℕ) (s : List ℕ) → Bytes s → Bytes (take n s)
+bytes-take zero s bytes k = lit< tt
+bytes-take (suc n) [] bytes k = bytes k
+bytes-take (suc n) (b ∷ s) bytes zero = bytes 0
+bytes-take (suc n) (b ∷ s) bytes (suc k) = bytes-take n s (λ i. bytes (suc i)) k
+
 -- field i of a row is number i
 pub field-row : (w : ℕ) (xs : List ℕ) → ((i : ℕ) → getD xs i 0 < 256 ^ w) → (i : ℕ) → i < length xs → field w (row w xs) i ≡ getD xs i 0
 field-row w xs small i h =

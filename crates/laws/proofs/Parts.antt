@@ -1,7 +1,7 @@
 -- Parts of one width w, one after the other: each stands in its own place, and is written there.
-use mathlib.Core.Path.{_≡_, refl, sym, ap, _∙_}
+use mathlib.Core.Path.{_≡_, sym, ap, _∙_}
 use mathlib.Core.Logic.{⊎-elim}
-use mathlib.Core.List.{List, [], _++_, append-assoc}
+use mathlib.Core.List.{List, _++_, append-assoc}
 use Prim.Native.Nat.{ℕ, zero, suc, _+_, _*_, _-_, _≤_, _<_}
 use native.Mathlib.Nat.{le-refl, le-of-eq, le-of-suc-le-suc, not-suc-le-zero, eq-or-lt-of-le, mul-le-mul-right, zero-mul, suc-mul}
 use native.Mathlib.Numerals.{add-one}

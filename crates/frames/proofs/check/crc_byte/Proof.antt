@@ -1,5 +1,5 @@
 -- `frames::check::crc_byte` meets its contract: after k turns k of the eight steps are done.
-use mathlib.Core.Path.{_≡_, refl}
+use mathlib.Core.Path.{_≡_}
 use Prim.Native.Nat.{ℕ, _≤_, _*_, _-_}
 use native.Mathlib.Numerals.{add-one}
 use native.Mathlib.Omega.{arith}

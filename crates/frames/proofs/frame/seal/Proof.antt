@@ -5,7 +5,7 @@ use Prim.Native.Nat.{ℕ, _+_, _-_, _≤_}
 use native.Mathlib.Numerals.{add-one}
 use native.Mathlib.Omega.{arith}
 use borrow.Author.Needs.{needs}
-use lib.ListN.{length, set, take, drop, length-set, drop-of-length-le}
+use lib.ListN.{length, set, take, length-set, drop-of-length-le}
 use lib.Seq.{length-take-le, sets-eq}
 use Rattle.laws.specs.Bytes.{bigEndian}
 use Rattle.frames.proofs.frame.seal.Statement.{statement}

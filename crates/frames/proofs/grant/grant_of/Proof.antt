@@ -1,5 +1,4 @@
 -- `frames::grant::grant_of` meets its contract.
-use mathlib.Core.Path.{_≡_, sym, _∙_}
 use Rattle.frames.specs.Grant.{bodyInForm}
 use borrow.Author.Needs.{needs}
 use Rattle.frames.proofs.grant.grant_of.Statement.{statement}

@@ -1,5 +1,5 @@
 -- `frames::grant::write_grant` meets its contract.
-use mathlib.Core.Path.{_≡_, refl, sym, _∙_}
+use mathlib.Core.Path.{refl, sym, _∙_}
 use Rattle.frames.specs.Frame.{written}
 use Rattle.frames.proofs.GrantLaws.{length-grant, in-form-small}
 use borrow.Author.Needs.{needs}

@@ -25,14 +25,14 @@ host-frame-spec =
     tie.close
     (tie.spec
     (λ c. search needs)
-    (λ c. search (needs, lt-ltb, le-ltb, eq-eqb, ne-eqb, le-leb, add-zero))
+    (λ c. search (needs, lt-ltb, add-zero))
     (λ c. search needs)
-    (λ c. search (needs, lt-ltb, le-ltb, eq-eqb, ne-eqb, le-leb, add-zero))
+    (λ c. search (needs, lt-ltb, le-ltb, add-zero))
     (λ c. search needs)
     (λ c. search needs)
-    (λ c. search (needs, lt-ltb, le-ltb, eq-eqb, ne-eqb, le-leb, add-zero))
+    (λ c. search (needs, le-ltb, ne-eqb, add-zero))
     (λ c. search needs)
-    (λ c. search (needs, lt-ltb, le-ltb, eq-eqb, ne-eqb, le-leb, add-zero))
+    (λ c. search (needs, le-ltb, eq-eqb, le-leb, add-zero))
     (λ c. search needs)
     (λ c. search needs)
     (λ c. search needs)
