@@ -10,12 +10,11 @@ fn main() {
     );
     let archive = PathBuf::from(env::var_os("BELLACUSH_ARCHIVE").unwrap_or(proved.into()));
     println!("cargo:rerun-if-changed={}", archive.display());
-    if !archive.is_file() {
-        println!(
-            "cargo:warning=no archive {}: run make first",
-            archive.display()
-        );
-    }
+    assert!(
+        archive.is_file(),
+        "no archive {}: run make first",
+        archive.display()
+    );
     let folder = archive.parent().expect("an archive stands in a folder");
     println!("cargo:rustc-link-search=native={}", folder.display());
     println!("cargo:rustc-link-lib=static=bellacush");
