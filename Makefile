@@ -42,7 +42,7 @@ test:
 
 test-rust: $(LIBRARY)
 	cargo fmt --all --check
-	$(CARGO) test --offline --quiet --workspace
+	$(CARGO) test --offline --quiet --workspace --no-fail-fast
 
 # One source, held to the header in both languages.
 build/calls-c: tests/c/calls.c $(HEADER) $(LIBRARY)

@@ -234,7 +234,8 @@ static void print_table(unsigned long number, unsigned long ports, const uint8_t
     printf("\n");
 }
 
-static void print_row(const char *name, unsigned host, const unsigned long *row, unsigned long ports)
+static void print_row(const char *name, unsigned host, const unsigned long *row,
+                      unsigned long ports)
 {
     unsigned t;
 
@@ -356,7 +357,8 @@ int main(int argc, char **argv)
         set.slots = 10 * set.ports * set.ports;
     print_shelf(&set);
     play(&built, &set, 0);
-    printf("\nAs built: the copy is refused with number %d and changes nothing.\n", BELLACUSH_SLOT_STALE);
+    printf("\nAs built: the copy is refused with number %d and changes nothing.\n",
+           BELLACUSH_SLOT_STALE);
     print_summary(&built);
     play(&faulty, &set, 1);
     printf("\nThe faulty way: the copy is taken for a new slot, too late to be of use.\n");

@@ -49,20 +49,20 @@ extern "C" {
 
 /* The numbers that calls return: 0, or why a call declined. */
 enum bellacush_number {
-    BELLACUSH_DONE = 0,            /* done */
-    BELLACUSH_BAD_PORTS = 1,       /* n outside 1 to 16 */
-    BELLACUSH_BAD_OFFSET = 2,      /* I or J at or above n */
-    BELLACUSH_SLOT_STALE = 3,      /* (due - slot) mod 2^32 from 1 to 2147483648: served before */
-    BELLACUSH_SLOT_EARLY = 4,      /* that difference above 2147483648: not due yet */
-    BELLACUSH_BAD_LIMIT = 5,       /* distributed round limit outside 1 to 16 */
-    BELLACUSH_BAD_BLOCK_LEN = 6,   /* block length other than 11 n */
-    BELLACUSH_OUT_TOO_SHORT = 7,   /* output below 5 n for a slot, 11 or 5 for one frame */
-    BELLACUSH_BAD_LEN = 8,         /* a state, table, frame or part of another length than its own */
-    BELLACUSH_BAD_TYPE = 9,        /* frame type other than asked for */
-    BELLACUSH_BAD_CHECK = 10,      /* the frame's check differs */
-    BELLACUSH_BAD_GRANT_FIELD = 11,/* bits 3 to 7 of the flags set, gnt nonzero without gntVal,
-                                      or, in writing, nodeId or gnt above 15 */
-    BELLACUSH_NOBODY_JOINED = 12   /* a distributed round with a live request joined nobody */
+    BELLACUSH_DONE = 0,             /* done */
+    BELLACUSH_BAD_PORTS = 1,        /* n outside 1 to 16 */
+    BELLACUSH_BAD_OFFSET = 2,       /* I or J at or above n */
+    BELLACUSH_SLOT_STALE = 3,       /* (due - slot) mod 2^32 from 1 to 2147483648 */
+    BELLACUSH_SLOT_EARLY = 4,       /* that difference above 2147483648 */
+    BELLACUSH_BAD_LIMIT = 5,        /* distributed round limit outside 1 to 16 */
+    BELLACUSH_BAD_BLOCK_LEN = 6,    /* block length other than 11 n */
+    BELLACUSH_OUT_TOO_SHORT = 7,    /* output below 5 n for a slot, 11 or 5 for one frame */
+    BELLACUSH_BAD_LEN = 8,          /* a state, table, frame or part of another length */
+    BELLACUSH_BAD_TYPE = 9,         /* frame type other than asked for */
+    BELLACUSH_BAD_CHECK = 10,       /* the frame's check differs */
+    BELLACUSH_BAD_GRANT_FIELD = 11, /* bits 3 to 7 of the flags set, gnt nonzero without gntVal,
+                                       or, in writing, nodeId or gnt above 15 */
+    BELLACUSH_NOBODY_JOINED = 12    /* a distributed round with a live request joined nobody */
 };
 
 /* What bellacush_slot returns, taken apart: the number, and the rounds that were run. */

@@ -93,7 +93,7 @@ impl Player {
     pub fn pass(&mut self, trace: &Trace) {
         for block in &trace.blocks {
             let word = self.serve(trace, block);
-            assert!(word % 256 == 0, "a slot of the trace was declined");
+            assert_eq!(word % 256, 0, "a slot of the trace was declined");
         }
     }
 }

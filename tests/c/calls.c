@@ -123,18 +123,25 @@ static void lengths_are_tested(void)
     static const uint16_t req[2] = {3, 3};
     struct lent l = asking(2, req), before = l;
 
-    CHECK(bellacush_slot(l.state, 8, 5, 0, l.block, 22, 0, l.out, 10, l.table, 32) == BELLACUSH_BAD_LEN);
-    CHECK(bellacush_slot(l.state, 7, 5, 0, l.block, 22, 0, l.out, 10, l.table, 33) == BELLACUSH_BAD_LEN);
+    CHECK(bellacush_slot(l.state, 8, 5, 0, l.block, 22, 0, l.out, 10, l.table, 32) ==
+          BELLACUSH_BAD_LEN);
+    CHECK(bellacush_slot(l.state, 7, 5, 0, l.block, 22, 0, l.out, 10, l.table, 33) ==
+          BELLACUSH_BAD_LEN);
     CHECK(bellacush_slot(l.state, 7, 5, 0, l.block, 21, 0, l.out, 10, l.table, 32) ==
           BELLACUSH_BAD_BLOCK_LEN);
     CHECK(bellacush_slot(l.state, 7, 5, 0, l.block, 22, 0, l.out, 9, l.table, 32) ==
           BELLACUSH_OUT_TOO_SHORT);
     CHECK(bellacush_slot(NULL, 0, 5, 0, NULL, 0, 0, NULL, 0, NULL, 0) == BELLACUSH_BAD_LEN);
+    CHECK(bellacush_write_config(0, 0, 0, 0, NULL, 0) == BELLACUSH_OUT_TOO_SHORT);
+    CHECK(bellacush_write_grant(0, 0, 0, 0, 0, NULL, 0) == BELLACUSH_OUT_TOO_SHORT);
+    CHECK(bellacush_read_config(NULL, 0, NULL, 0) == BELLACUSH_BAD_LEN);
+    CHECK(bellacush_read_grant(NULL, 0, NULL, 0) == BELLACUSH_BAD_LEN);
     l.state[1] = before.state[1] = 2;
     CHECK(slot(&l, 5, 0) == BELLACUSH_BAD_OFFSET);
     CHECK(same(&l, &before));
     l.state[0] = 17;
-    CHECK(bellacush_slot(l.state, 7, 5, 0, l.block, 176, 0, l.out, 80, l.table, 32) == BELLACUSH_BAD_PORTS);
+    CHECK(bellacush_slot(l.state, 7, 5, 0, l.block, 176, 0, l.out, 80, l.table, 32) ==
+          BELLACUSH_BAD_PORTS);
 }
 
 static void link_and_quiet_hosts_are_told(void)
@@ -143,7 +150,8 @@ static void link_and_quiet_hosts_are_told(void)
     struct lent l = asking(2, req);
 
     memset(l.block + BELLACUSH_CONFIG_LEN, 0, BELLACUSH_CONFIG_LEN);
-    CHECK(bellacush_slot(l.state, 7, 5, 0, l.block, 22, 0xFFFE, l.out, 80, l.table, 32) == BELLACUSH_DONE);
+    CHECK(bellacush_slot(l.state, 7, 5, 0, l.block, 22, 0xFFFE, l.out, 80, l.table, 32) ==
+          BELLACUSH_DONE);
     CHECK(l.out[1] == 0x00 && l.out[2] == BELLACUSH_GNT_VAL);
     CHECK(l.out[6] == 0x10 && l.out[7] == (BELLACUSH_LINK_ERR | BELLACUSH_CRC_ERR));
 }
@@ -180,7 +188,8 @@ static void grant_frames(void)
     CHECK(bellacush_write_grant(16, 0, 1, 0, 0, out, 4) == BELLACUSH_BAD_GRANT_FIELD);
     CHECK(bellacush_write_grant(0, 16, 1, 0, 0, out, 5) == BELLACUSH_BAD_GRANT_FIELD);
     CHECK(bellacush_write_grant(0, 1, 0, 0, 0, out, 5) == BELLACUSH_BAD_GRANT_FIELD);
-    CHECK(bellacush_write_grant(12, 5, 1, 0, 1, out, 4) == BELLACUSH_OUT_TOO_SHORT && out[0] == 0xB7);
+    CHECK(bellacush_write_grant(12, 5, 1, 0, 1, out, 4) == BELLACUSH_OUT_TOO_SHORT);
+    CHECK(out[0] == 0xB7);
     CHECK(bellacush_write_grant(12, 5, 256, 0, 4294967295u, out, sizeof out) == BELLACUSH_DONE);
     CHECK(memcmp(out, frame, sizeof frame) == 0 && out[5] == 0xB7);
     CHECK(bellacush_read_grant(frame, 5, part, 3) == BELLACUSH_BAD_LEN);

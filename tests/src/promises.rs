@@ -27,7 +27,7 @@ fn refusal(call: &Slot) -> Option<u32> {
             2,
             state.initiator >= state.ports || state.target >= state.ports,
         ),
-        (3, 1 <= behind && behind <= HALF),
+        (3, (1..=HALF).contains(&behind)),
         (4, behind > HALF),
         (5, call.mode > 16),
         (6, call.block.len() != CONFIG_LEN * ports),

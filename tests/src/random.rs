@@ -18,12 +18,12 @@ impl Random {
         println!("{name}: BELLACUSH_SEED={seed}");
         let mut random = Random::new(seed);
         for byte in name.bytes() {
-            random.state = random.next() ^ u64::from(byte);
+            random.state = random.draw() ^ u64::from(byte);
         }
         random
     }
 
-    pub fn next(&mut self) -> u64 {
+    pub fn draw(&mut self) -> u64 {
         self.state = self.state.wrapping_add(0x9E37_79B9_7F4A_7C15);
         let mut mixed = self.state;
         mixed = (mixed ^ (mixed >> 30)).wrapping_mul(0xBF58_476D_1CE4_E5B9);
@@ -33,7 +33,7 @@ impl Random {
 
     /// Below `bound`, which is not 0.
     pub fn below(&mut self, bound: usize) -> usize {
-        (self.next() % bound as u64) as usize
+        (self.draw() % bound as u64) as usize
     }
 
     /// From `low` to `high`, both possible.
@@ -51,15 +51,15 @@ impl Random {
     }
 
     pub fn word(&mut self) -> u16 {
-        self.next() as u16
+        self.draw() as u16
     }
 
     pub fn long(&mut self) -> u32 {
-        self.next() as u32
+        self.draw() as u32
     }
 
     pub fn bytes(&mut self, len: usize) -> Vec<u8> {
-        (0..len).map(|_| self.next() as u8).collect()
+        (0..len).map(|_| self.draw() as u8).collect()
     }
 
     /// A word in which each bit is set `part` times in `whole`.

@@ -2,6 +2,9 @@
 //! distributed form of its section 5 as messages between initiators and targets. Where the
 //! report is silent, document 01 decides.
 
+// rows and columns are named as in the report
+#![allow(clippy::needless_range_loop)]
+
 use crate::frames::Config;
 
 pub const MOST_PORTS: usize = 16;

@@ -62,7 +62,7 @@ pub fn spoilt(random: &mut Random, mut frame: Vec<u8>) -> Vec<u8> {
     match random.below(10) {
         0 => frame.fill(0),
         1 => frame[random.below(CONFIG_LEN)] ^= 1 << random.below(8),
-        2 => frame[random.below(CONFIG_LEN)] = random.next() as u8,
+        2 => frame[random.below(CONFIG_LEN)] = random.draw() as u8,
         3 => frame = foreign(random),
         4 => frame = lengthened(grant(random)),
         5 => frame[random.below(CONFIG_LEN)..].fill(0),

@@ -216,8 +216,11 @@ fn number_8_for_a_table_of_other_than_32_bytes() {
     }
 }
 
-/// What makes a call be declined with each number, in the order of the tests.
-const REASONS: [(u32, fn(&mut Slot)); 9] = [
+/// A number, and what makes a call be declined with it.
+type Reason = (u32, fn(&mut Slot));
+
+/// In the order of the tests.
+const REASONS: [Reason; 9] = [
     (8, |call| call.state.push(0)),
     (8, |call| call.table.truncate(31)),
     (1, |call| call.state[0] = 0),

@@ -6,13 +6,16 @@ use bellacush_tests::lent::Lent;
 use bellacush_tests::promises;
 use bellacush_tests::random::{cases, Random};
 
+/// A number, and the lent bytes as the call leaves them.
+type Answer = (u32, Vec<u8>);
+
 /// A reader's answer, seen to be the promised one.
 fn read(
     by_library: fn(&[u8], &mut [u8]) -> u32,
-    promise: fn(&[u8], &[u8]) -> (u32, Vec<u8>),
+    promise: fn(&[u8], &[u8]) -> Answer,
     frame: &[u8],
     part: &[u8],
-) -> (u32, Vec<u8>) {
+) -> Answer {
     let (lent_frame, mut lent_part) = (Lent::new(frame), Lent::new(part));
     let number = by_library(&lent_frame, lent_part.lend());
     assert_eq!(lent_frame.back(), frame, "the frame was changed");
@@ -21,15 +24,15 @@ fn read(
     answer
 }
 
-fn read_config(frame: &[u8], part: &[u8]) -> (u32, Vec<u8>) {
+fn read_config(frame: &[u8], part: &[u8]) -> Answer {
     read(calls::read_config, promises::read_config, frame, part)
 }
 
-fn read_grant(frame: &[u8], part: &[u8]) -> (u32, Vec<u8>) {
+fn read_grant(frame: &[u8], part: &[u8]) -> Answer {
     read(calls::read_grant, promises::read_grant, frame, part)
 }
 
-fn write_config(config: Config, out: &[u8]) -> (u32, Vec<u8>) {
+fn write_config(config: Config, out: &[u8]) -> Answer {
     let mut lent = Lent::new(out);
     let Config { req, pre, ben, qen } = config;
     let number = calls::write_config(req, pre, ben, qen, lent.lend());
@@ -39,7 +42,7 @@ fn write_config(config: Config, out: &[u8]) -> (u32, Vec<u8>) {
 }
 
 /// The flags go out as `set` where they are set.
-fn write_grant(grant: Grant, set: u32, out: &[u8]) -> (u32, Vec<u8>) {
+fn write_grant(grant: Grant, set: u32, out: &[u8]) -> Answer {
     let mut lent = Lent::new(out);
     let flag = |is_set: bool| if is_set { set } else { 0 };
     let number = calls::write_grant(

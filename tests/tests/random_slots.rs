@@ -46,7 +46,7 @@ fn slots_of_every_size_and_mode() {
     let mut random = Random::of_test("slots_of_every_size_and_mode");
     for ports in 1..=16 {
         for mode in 0..=16 {
-            for _ in 0..cases(250) {
+            for _ in 0..cases(600) {
                 let call = any_call(&mut random, ports, mode);
                 assert_eq!(call.agreed().number(), 0);
             }
@@ -60,7 +60,7 @@ fn requests_of_every_load() {
     for ports in 1..=16 {
         for load in 0..=64 {
             for mode in [0, 1, 2, 4, 16] {
-                for _ in 0..cases(6) {
+                for _ in 0..cases(12) {
                     let block = Traffic::requests(load).block(&mut random, ports);
                     let call = Slot::due(any_state(&mut random, ports), mode, block);
                     assert_eq!(call.agreed().number(), 0);
@@ -73,7 +73,7 @@ fn requests_of_every_load() {
 #[test]
 fn plans_in_conflict_and_multicasts() {
     let mut random = Random::of_test("plans_in_conflict_and_multicasts");
-    for case in 0..cases(30_000) {
+    for case in 0..cases(60_000) {
         let ports = random.between(2, 16);
         let mut traffic = Traffic::requests(random.pick(&[8, 32, 64]));
         traffic.planned = [2, 8, 24, 64][case % 4];
@@ -103,7 +103,7 @@ fn cleared_votes() {
 #[test]
 fn frames_damaged_missing_and_foreign() {
     let mut random = Random::of_test("frames_damaged_missing_and_foreign");
-    for _ in 0..cases(40_000) {
+    for _ in 0..cases(80_000) {
         let ports = random.between(1, 16);
         let mut traffic = Traffic::any(&mut random);
         traffic.spoilt = random.pick(&[8, 32, 64]);
@@ -176,7 +176,7 @@ fn disturb(random: &mut Random, call: &mut Slot) {
 fn calls_disturbed_in_several_ways_at_once() {
     let mut random = Random::of_test("calls_disturbed_in_several_ways_at_once");
     let mut declined = [0; 13];
-    for _ in 0..cases(150_000) {
+    for _ in 0..cases(250_000) {
         let mut call = any_served(&mut random);
         for _ in 0..random.between(1, 4) {
             if call.state.len() == 7 {
