@@ -17,6 +17,7 @@ const MOST_RATIO: f64 = 2.0;
 const MODES: [(&str, u32); 2] = [("central", 0), ("distributed, limit 4", 4)];
 
 fn main() {
+    println!("Command: make bench. Processor: {}.", processor());
     println!(
         "Both are release builds, timed in this one run on the same traces, in turn. A time is"
     );
@@ -31,6 +32,13 @@ fn main() {
     checks();
     growth();
     stacks();
+}
+
+fn processor() -> String {
+    let known = std::fs::read_to_string("/proc/cpuinfo").unwrap_or_default();
+    let model = known.lines().find(|line| line.starts_with("model name"));
+    let name = model.and_then(|line| line.split(": ").nth(1));
+    name.unwrap_or("unknown").to_string()
 }
 
 fn measure(trace: &Trace) -> Times {

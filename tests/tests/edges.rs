@@ -1,7 +1,7 @@
 //! Document 01's edges and its table of numbers, one by one. A declined call is seen to keep
 //! all that it is lent.
 
-use bellacush_tests::frames::Config;
+use bellacush_tests::frames::{sealed, Config};
 use bellacush_tests::slots::{After, Slot, State, CENTRAL};
 
 const HALF: u32 = 1 << 31;
@@ -313,6 +313,25 @@ fn unheard_host_is_told_so_and_declines_nothing() {
             }
         }
     }
+}
+
+#[test]
+fn frame_of_another_type_leaves_its_host_unheard_though_its_check_is_right() {
+    for kind in (0..=255).filter(|&kind| kind != 1) {
+        let mut call = call(State::fresh(2, 9));
+        call.block[0] = kind;
+        let foreign = sealed(call.block[..9].to_vec());
+        call.block[..11].copy_from_slice(&foreign);
+        assert_eq!(expect_served(&call).line(), "0:- 1:0");
+    }
+}
+
+#[test]
+fn disabled_host_is_not_told_that_it_is_unheard() {
+    let mut hosts = full(2);
+    hosts[1].ben = 0b10;
+    let after = expect_served(&Slot::of_hosts(State::fresh(2, 9), CENTRAL, &hosts));
+    assert_eq!((after.line().as_str(), after.out[2]), ("0:- 1:0", 0));
 }
 
 #[test]

@@ -207,6 +207,15 @@ fn round_accepting_two_grants() {
 }
 
 #[test]
+fn round_joining_fewer_than_accept() {
+    expect(
+        asked((0, 0), 1, &[&[1], &[2], &[3], &[0]]),
+        "0:1 1:2 2:3 3:0",
+        1,
+    );
+}
+
+#[test]
 fn rounds_counting_the_favoured_pair_or_the_limit() {
     for limit in 1..=16 {
         expect(asked((0, 0), limit, &[&[0], &[]]), "0:0 1:-", 0);
