@@ -86,7 +86,6 @@ static void central_slot_is_served(void)
     CHECK(memcmp(lent.table, table, sizeof table) == 0);
     CHECK(lent.table[6] == 0 && lent.table[31] == 0 && lent.table[32] == 0xB7);
     CHECK(memcmp(lent.out + BELLACUSH_OUT_LEN(2), grant, sizeof grant) == 0);
-    CHECK(lent.out[BELLACUSH_OUT_LEN(3)] == 0xB7);
     CHECK(lent.state[0] == 3 && lent.state[1] == 1 && lent.state[2] == 0 && lent.state[6] == 6);
 }
 
@@ -154,6 +153,7 @@ static void link_and_quiet_hosts_are_told(void)
           BELLACUSH_DONE);
     CHECK(l.out[1] == 0x00 && l.out[2] == BELLACUSH_GNT_VAL);
     CHECK(l.out[6] == 0x10 && l.out[7] == (BELLACUSH_LINK_ERR | BELLACUSH_CRC_ERR));
+    CHECK(l.out[BELLACUSH_OUT_LEN(2)] == 0xB7);
 }
 
 static void config_frames(void)
