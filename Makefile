@@ -1,4 +1,72 @@
-.PHONY: test
+# make            the proved library and the firmware demo
+# make run        play a shelf; ARGS="ports=8 slots=640" changes it, ARGS=help explains
+# make test       the gate: all proofs, then the Rust and C tests
+# make bench      measure the slot call against a plain Rust slot
+# make install    library, header and pkg-config file, under DESTDIR and PREFIX
+# make clean      remove everything that was built
+
+VERSION = 0.1.0
+PREFIX ?= /usr/local
+DESTDIR ?=
+ARGS ?=
+CC ?= cc
+CXX ?= c++
+CFLAGS ?= -O2
+CXXFLAGS ?= -O2
+WARNINGS = -Wall -Wextra -Wpedantic -Werror
+
+# Another archive can stand in, as in: make test-c LIBRARY=elsewhere/libbellacush.a
+PROVED = target/staticlib/libbellacush.a
+LIBRARY ?= $(PROVED)
+HEADER = include/bellacush.h
+SOURCES = crates.txt $(shell find crates -name '*.rt' -o -name '*.antt')
+CARGO = BELLACUSH_ARCHIVE='$(abspath $(LIBRARY))' cargo
+
+.PHONY: all run test test-rust test-c bench install clean
+
+all: $(LIBRARY) build/shelf
+
+$(PROVED): $(SOURCES)
+	rt staticlib bellacush
+	@touch $@
+
+build/shelf: firmware/shelf.c $(HEADER) $(LIBRARY)
+	@mkdir -p build
+	$(CC) -std=c99 $(WARNINGS) $(CFLAGS) -Iinclude -o $@ $< $(LIBRARY)
+
+run: build/shelf
+	@./build/shelf $(ARGS)
 
 test:
 	.ci/run
+
+test-rust: $(LIBRARY)
+	cargo fmt --all --check
+	$(CARGO) test --offline --quiet --workspace --no-fail-fast
+
+# One source, held to the header in both languages.
+build/calls-c: tests/c/calls.c $(HEADER) $(LIBRARY)
+	@mkdir -p build
+	$(CC) -std=c99 $(WARNINGS) $(CFLAGS) -Iinclude -o $@ $< $(LIBRARY)
+
+build/calls-cpp: tests/c/calls.c $(HEADER) $(LIBRARY)
+	@mkdir -p build
+	$(CXX) -std=c++11 $(WARNINGS) $(CXXFLAGS) -Iinclude -o $@ -x c++ $< -x none $(LIBRARY)
+
+test-c: build/calls-c build/calls-cpp build/shelf
+	./build/calls-c
+	./build/calls-cpp
+	tests/c/shelf ./build/shelf
+
+bench: $(LIBRARY)
+	$(CARGO) run --offline --quiet --release --package bellacush-bench
+
+install: $(LIBRARY)
+	install -d '$(DESTDIR)$(PREFIX)/include' '$(DESTDIR)$(PREFIX)/lib/pkgconfig'
+	install -m 644 $(HEADER) '$(DESTDIR)$(PREFIX)/include/'
+	install -m 644 $(LIBRARY) '$(DESTDIR)$(PREFIX)/lib/libbellacush.a'
+	sed -e 's|@PREFIX@|$(PREFIX)|' -e 's|@VERSION@|$(VERSION)|' bellacush.pc.in \
+	  > '$(DESTDIR)$(PREFIX)/lib/pkgconfig/bellacush.pc'
+
+clean:
+	rm -rf build target

@@ -1,0 +1,184 @@
+//! The C form measured against a plain Rust slot, in tables for docs/PERFORMANCE.md.
+
+mod plain;
+mod stack;
+mod timing;
+mod traces;
+
+use bellacush_tests::calls;
+use bellacush_tests::frames::Config;
+use bellacush_tests::traffic::Traffic;
+use std::hint::black_box;
+use timing::{compare, Times, BATCHES, BATCH_MILLISECONDS};
+use traces::{agree, Load, Player, Trace, FULL, HALF, LIGHT};
+
+const MOST_SECONDS: f64 = 8.5e-6;
+const MOST_RATIO: f64 = 2.0;
+const MODES: [(&str, u32); 2] = [("central", 0), ("distributed, limit 4", 4)];
+
+fn main() {
+    println!("Command: make bench. Processor: {}.", processor());
+    println!(
+        "Both are release builds, timed in this one run on the same traces, in turn. A time is"
+    );
+    println!(
+        "the median of {BATCHES} batches of {BATCH_MILLISECONDS} ms of the thread's processor time."
+    );
+    println!(
+        "Buffers are warm and outputs are not cleared. The two were first seen to answer every"
+    );
+    println!("trace alike. Limits: 8.5 µs a slot, and a ratio of 2.0 to the plain Rust slot.");
+    slots();
+    checks();
+    growth();
+    stacks();
+}
+
+fn processor() -> String {
+    let known = std::fs::read_to_string("/proc/cpuinfo").unwrap_or_default();
+    let model = known.lines().find(|line| line.starts_with("model name"));
+    let name = model.and_then(|line| line.split(": ").nth(1));
+    name.unwrap_or("unknown").to_string()
+}
+
+fn measure(trace: &Trace) -> Times {
+    agree(trace, calls::slot, plain::slot);
+    let mut ours = Player::new(calls::slot, trace);
+    let mut rust = Player::new(plain::slot, trace);
+    compare(trace.blocks.len(), || ours.pass(trace), || rust.pass(trace))
+}
+
+fn verdict(times: Times) -> &'static str {
+    match (times.ours < MOST_SECONDS, times.ratio() <= MOST_RATIO) {
+        (true, true) => "met",
+        (true, false) => "ratio missed",
+        (false, true) => "time missed",
+        (false, false) => "both missed",
+    }
+}
+
+fn micro(seconds: f64) -> f64 {
+    seconds * 1e6
+}
+
+fn slots() {
+    println!("\n## One slot, bytes to bytes\n");
+    println!("| Ports | Load | Mode | C form, µs | Rust, µs | Ratio | C form, slots/s | Rust, slots/s | Limits |");
+    println!("|---|---|---|---|---|---|---|---|---|");
+    for ports in [16, 4] {
+        for load in [FULL, HALF, LIGHT] {
+            for mode in MODES {
+                slot_row(ports, load, mode);
+            }
+        }
+    }
+    println!("\nFull: every bit of req set; half: each with chance 1/2; light: with chance 1/16.");
+}
+
+fn slot_row(ports: usize, load: Load, (mode, limit): (&str, u32)) {
+    let times = measure(&Trace::new(ports, load, limit));
+    println!(
+        "| {ports} | {} | {mode} | {:.3} | {:.3} | {:.2} | {:.0} | {:.0} | {} |",
+        load.name,
+        micro(times.ours),
+        micro(times.rust),
+        times.ratio(),
+        1.0 / times.ours,
+        1.0 / times.rust,
+        verdict(times)
+    );
+}
+
+fn checks() {
+    println!("\n## The checks of one slot of 16 ports\n");
+    println!("The C form has no call for the check alone. It is measured through the frame calls,");
+    println!("which do little else, against the same work in Rust.\n");
+    println!("| Work | C form, µs | Rust, µs | Ratio |");
+    println!("|---|---|---|---|");
+    let row = |work: &str, times: Times| {
+        let (ours, rust) = (micro(times.ours), micro(times.rust));
+        println!("| {work} | {ours:.3} | {rust:.3} | {:.2} |", times.ratio());
+    };
+    row("read 16 configuration frames (16 × 9 bytes)", reading());
+    row("write 16 grant frames (16 × 3 bytes)", writing());
+}
+
+fn reading() -> Times {
+    let frames: Vec<Vec<u8>> = (0..16).map(|host| Config::asking(host).frame()).collect();
+    let (mut our_part, mut rust_part) = ([0; 8], [0; 8]);
+    compare(
+        1,
+        || {
+            for frame in black_box(&frames) {
+                assert_eq!(calls::read_config(frame, &mut our_part), 0);
+            }
+        },
+        || {
+            for frame in black_box(&frames) {
+                assert!(plain::config_is_right(frame));
+                rust_part.copy_from_slice(&frame[1..9]);
+            }
+            black_box(&mut rust_part);
+        },
+    )
+}
+
+fn writing() -> Times {
+    let (mut our_out, mut rust_out) = ([0; 80], [0; 80]);
+    compare(
+        1,
+        || {
+            for host in 0..16 {
+                let part = &mut our_out[5 * host..];
+                assert_eq!(calls::write_grant(host as u32, 5, 1, 0, 0, part), 0);
+            }
+        },
+        || {
+            for host in 0..16 {
+                let (gnt, flags) = black_box((5, 1));
+                plain::write_grant(host as u8, gnt, flags, &mut rust_out[5 * host..]);
+            }
+            black_box(&mut rust_out);
+        },
+    )
+}
+
+fn growth() {
+    println!("\n## How cost grows with n, half load\n");
+    println!("| n | Central: C form, µs | Rust, µs | Ratio | Limits | Distributed, limit 4: C form, µs | Rust, µs | Ratio | Limits |");
+    println!("|---|---|---|---|---|---|---|---|---|");
+    for ports in 1..=16 {
+        print!("| {ports} |");
+        for (_, limit) in MODES {
+            let times = measure(&Trace::new(ports, HALF, limit));
+            print!(
+                " {:.3} | {:.3} | {:.2} | {} |",
+                micro(times.ours),
+                micro(times.rust),
+                times.ratio(),
+                verdict(times)
+            );
+        }
+        println!();
+    }
+}
+
+fn stacks() {
+    println!("\n## The stack that one slot call uses\n");
+    println!("The high-water mark on a painted stack, below the caller's frame, the arguments and");
+    println!("the return address: the most over 753 slots of 16 ports, of full and of half load");
+    println!("and with plans, cleared votes and spoilt frames.\n");
+    println!("| Mode | Bytes |");
+    println!("|---|---|");
+    let mixed = Traffic {
+        asked: 32,
+        planned: 4,
+        vote_cleared: 1,
+        spoilt: 8,
+    };
+    for (mode, limit) in [MODES[0], MODES[1], ("distributed, limit 16", 16)] {
+        let loads = [Traffic::requests(64), Traffic::requests(32), mixed];
+        let most = loads.map(|load| stack::used(&Trace::of(16, limit, load)));
+        println!("| {mode} | {} |", most.into_iter().max().unwrap_or(0));
+    }
+}

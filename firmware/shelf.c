@@ -1,0 +1,368 @@
+/*
+ * Plays a shelf over libbellacush: hosts with random traffic, whose every block of frames comes
+ * twice, the second time by the standby link. First as built, where the copy is refused; then the
+ * faulty way, where the card takes each copy for a new slot. Prints what both did.
+ */
+#include <stdio.h>
+#include <stdlib.h>
+#include <string.h>
+
+#include "bellacush.h"
+
+#define MOST BELLACUSH_MOST_PORTS
+#define SLOTS_SHOWN 3
+#define POPULAR_TARGET 0u
+
+static const char usage[] =
+    "usage: shelf [ports=4] [load=90] [mode=central] [slots=160] [seed=1]\n"
+    "  ports  hosts on the shelf, 1 to 16\n"
+    "  load   chance in percent that a new cell comes for a pair in a slot, 0 to 100\n"
+    "  mode   central, or the round limit of the distributed form, 1 to 16\n"
+    "  slots  slots to play, 1 to 1000000; ten turns for each pair if not said\n"
+    "  seed   of the random traffic, 0 to 4294967295\n";
+
+struct settings {
+    unsigned long ports, load, mode, slots, seed;
+};
+
+typedef unsigned long grid[MOST][MOST]; /* a count for each initiator and target */
+
+struct shelf {
+    const struct settings *set;
+    uint8_t state[BELLACUSH_STATE_LEN];
+    uint32_t random;
+    grid waiting, asked, turns, connected;
+    unsigned long served, refused, connections;
+};
+
+/* One block of frames with what the card needs to serve it. */
+struct slot {
+    uint8_t block[BELLACUSH_BLOCK_LEN(MOST)];
+    uint8_t out[BELLACUSH_OUT_LEN(MOST)];
+    uint8_t table[BELLACUSH_TABLE_LEN];
+};
+
+/* Arguments */
+
+static void refuse(const char *argument, const char *why)
+{
+    fprintf(stderr, "shelf: %s: %s\n%s", argument, why, usage);
+    exit(2);
+}
+
+/* The whole number after '=', which is to be from low to high. */
+static unsigned long number_of(const char *argument, unsigned long low, unsigned long high)
+{
+    const char *digits = strchr(argument, '=') + 1;
+    char range[64];
+    unsigned long value = 0;
+    size_t k;
+
+    sprintf(range, "a whole number from %lu to %lu is wanted", low, high);
+    if (digits[0] == '\0' || strlen(digits) > 10 || strspn(digits, "0123456789") != strlen(digits))
+        refuse(argument, range);
+    for (k = 0; digits[k] != '\0'; k++)
+        value = value * 10 + (unsigned long)(digits[k] - '0');
+    if (value < low || value > high)
+        refuse(argument, range);
+    return value;
+}
+
+static int names(const char *argument, const char *name)
+{
+    size_t len = strlen(name);
+    return strncmp(argument, name, len) == 0 && argument[len] == '=';
+}
+
+static void take(struct settings *set, const char *argument)
+{
+    if (names(argument, "ports"))
+        set->ports = number_of(argument, 1, MOST);
+    else if (names(argument, "load"))
+        set->load = number_of(argument, 0, 100);
+    else if (strcmp(argument, "mode=central") == 0)
+        set->mode = BELLACUSH_CENTRAL;
+    else if (names(argument, "mode"))
+        set->mode = number_of(argument, 1, BELLACUSH_MOST_ROUNDS);
+    else if (names(argument, "slots"))
+        set->slots = number_of(argument, 1, 1000000);
+    else if (names(argument, "seed"))
+        set->seed = number_of(argument, 0, 4294967295ul);
+    else
+        refuse(argument, "not an argument of this program");
+}
+
+/* Traffic */
+
+/* A small generator (xorshift), so that a seed gives the same traffic everywhere. */
+static uint32_t next_random(struct shelf *shelf)
+{
+    shelf->random ^= shelf->random << 13;
+    shelf->random ^= shelf->random >> 17;
+    shelf->random ^= shelf->random << 5;
+    return shelf->random;
+}
+
+/* The host that sends to every target, as a backup would. */
+static unsigned busy_host(const struct settings *set)
+{
+    return set->ports > 1 ? 1u : 0u;
+}
+
+/* New cells: from the busy host to every target, and from every host to the popular one. */
+static void new_cells(struct shelf *shelf)
+{
+    unsigned i, t;
+
+    for (i = 0; i < shelf->set->ports; i++)
+        for (t = 0; t < shelf->set->ports; t++) {
+            int used = i == busy_host(shelf->set) || t == POPULAR_TARGET;
+            if (used && next_random(shelf) % 100u < shelf->set->load)
+                shelf->waiting[i][t]++;
+        }
+}
+
+/* The card */
+
+static void expect(const char *call, uint32_t answer, uint32_t wanted)
+{
+    if (answer == wanted)
+        return;
+    fprintf(stderr, "shelf: %s answered %lu in place of %lu\n", call, (unsigned long)answer,
+            (unsigned long)wanted);
+    exit(1);
+}
+
+/* Each host frames the targets that it has cells for; it plans nothing and disables nobody. */
+static void send_frames(struct shelf *shelf, struct slot *slot)
+{
+    unsigned i, t;
+
+    for (i = 0; i < shelf->set->ports; i++) {
+        uint16_t req = 0;
+        for (t = 0; t < shelf->set->ports; t++)
+            if (shelf->waiting[i][t] > 0) {
+                req = (uint16_t)(req | 1u << t);
+                shelf->asked[i][t]++;
+            }
+        expect("bellacush_write_config",
+               bellacush_write_config(req, 0, 0xFFFF, 0xFFFF, slot->block + BELLACUSH_BLOCK_LEN(i),
+                                      BELLACUSH_CONFIG_LEN),
+               BELLACUSH_DONE);
+    }
+}
+
+static uint32_t due(const struct shelf *shelf)
+{
+    const uint8_t *s = shelf->state;
+    return (uint32_t)s[3] << 24 | (uint32_t)s[4] << 16 | (uint32_t)s[5] << 8 | s[6];
+}
+
+static uint32_t call_slot(struct shelf *shelf, struct slot *slot, uint32_t number)
+{
+    size_t n = shelf->set->ports;
+    return bellacush_slot(shelf->state, sizeof shelf->state, number, (uint32_t)shelf->set->mode,
+                          slot->block, BELLACUSH_BLOCK_LEN(n), 0, slot->out, BELLACUSH_OUT_LEN(n),
+                          slot->table, sizeof slot->table);
+}
+
+/* Each host reads its grant and sends one cell to the target that it was given. */
+static void send_cells(struct shelf *shelf, const struct slot *slot)
+{
+    unsigned i;
+
+    for (i = 0; i < shelf->set->ports; i++) {
+        uint8_t part[BELLACUSH_GRANT_PART_LEN];
+        unsigned target;
+
+        expect("bellacush_read_grant",
+               bellacush_read_grant(slot->out + BELLACUSH_OUT_LEN(i), BELLACUSH_GRANT_LEN, part,
+                                    sizeof part),
+               BELLACUSH_DONE);
+        target = part[0] % 16u;
+        if (!(part[1] & BELLACUSH_GNT_VAL))
+            continue;
+        shelf->waiting[i][target]--;
+        shelf->connected[i][target]++;
+        shelf->connections++;
+    }
+}
+
+/* One slot of time: the block is served and its cells are sent; then its copy comes. */
+static void play_slot(struct shelf *shelf, struct slot *slot, int copies_are_new)
+{
+    uint32_t number = due(shelf);
+
+    new_cells(shelf);
+    send_frames(shelf, slot);
+    shelf->turns[shelf->state[1]][shelf->state[2]]++;
+    expect("bellacush_slot", BELLACUSH_NUMBER(call_slot(shelf, slot, number)), BELLACUSH_DONE);
+    shelf->served++;
+    send_cells(shelf, slot);
+    if (copies_are_new) {
+        /* the hosts are sending already: what this answers can no longer be used */
+        struct slot copy = *slot;
+        expect("bellacush_slot", BELLACUSH_NUMBER(call_slot(shelf, &copy, number + 1)),
+               BELLACUSH_DONE);
+        shelf->served++;
+    } else {
+        expect("bellacush_slot", call_slot(shelf, slot, number), BELLACUSH_SLOT_STALE);
+        shelf->refused++;
+    }
+}
+
+/* Printing */
+
+/* The slot's number, then each initiator with the targets that it holds. */
+static void print_table(unsigned long number, unsigned long ports, const uint8_t *table)
+{
+    unsigned i, t;
+
+    printf("%lu", number);
+    for (i = 0; i < ports; i++) {
+        unsigned held = table[2 * i] * 256u + table[2 * i + 1];
+        char before = ':';
+        printf(" %u", i);
+        for (t = 0; t < MOST; t++)
+            if (held >> t & 1u) {
+                printf("%c%u", before, t);
+                before = ',';
+            }
+        if (held == 0)
+            printf(":-");
+    }
+    printf("\n");
+}
+
+static void print_row(const char *name, unsigned host, const unsigned long *row,
+                      unsigned long ports)
+{
+    unsigned t;
+
+    printf("%s %2u", name, host);
+    for (t = 0; t < ports; t++)
+        printf(" %4lu", row[t]);
+}
+
+static void print_heading(const char *name, unsigned long ports)
+{
+    char target[8];
+    unsigned t;
+
+    printf("%s", name);
+    for (t = 0; t < ports; t++) {
+        sprintf(target, "t%u", t);
+        printf(" %4s", target);
+    }
+}
+
+/* Side by side: how often each pair was the favoured one, and how often it was connected. */
+static void print_grids(const struct shelf *shelf)
+{
+    unsigned long n = shelf->set->ports;
+    unsigned i;
+
+    print_heading("  favoured", n);
+    print_heading("    connections", n);
+    for (i = 0; i < n; i++) {
+        print_row("\n  host ", i, shelf->turns[i], n);
+        print_row("        host", i, shelf->connected[i], n);
+    }
+    printf("\n");
+}
+
+static void print_summary(const struct shelf *shelf)
+{
+    unsigned long waiting = 0;
+    unsigned i, t;
+
+    for (i = 0; i < shelf->set->ports; i++)
+        for (t = 0; t < shelf->set->ports; t++)
+            waiting += shelf->waiting[i][t] > 0;
+    printf("  %lu slots served, %lu copies refused, %lu connections, %lu requests waiting\n",
+           shelf->served, shelf->refused, shelf->connections, waiting);
+    print_grids(shelf);
+}
+
+static unsigned long pairs_without(const struct shelf *shelf, const unsigned long (*counts)[MOST])
+{
+    unsigned long without = 0;
+    unsigned i, t;
+
+    for (i = 0; i < shelf->set->ports; i++)
+        for (t = 0; t < shelf->set->ports; t++)
+            without += counts[i][t] == 0;
+    return without;
+}
+
+static void print_moral(const struct shelf *built, const struct shelf *faulty)
+{
+    unsigned long pairs = built->set->ports * built->set->ports;
+    unsigned host = busy_host(built->set);
+
+    printf("Pairs that were never favoured: %lu of %lu as built, %lu of %lu the faulty way.\n",
+           pairs_without(built, built->turns), pairs, pairs_without(faulty, faulty->turns), pairs);
+    printf("Host %u asked for target %u and got it: %lu of %lu times, %lu of %lu the faulty way.\n",
+           host, POPULAR_TARGET, built->connected[host][POPULAR_TARGET],
+           built->asked[host][POPULAR_TARGET], faulty->connected[host][POPULAR_TARGET],
+           faulty->asked[host][POPULAR_TARGET]);
+}
+
+/* Playing */
+
+static void play(struct shelf *shelf, const struct settings *set, int copies_are_new)
+{
+    struct slot slot;
+    unsigned long k;
+
+    memset(shelf, 0, sizeof *shelf);
+    memset(&slot, 0, sizeof slot);
+    shelf->set = set;
+    shelf->state[0] = (uint8_t)set->ports;
+    shelf->random = (uint32_t)set->seed * 2654435769u | 1u; /* the generator would stay at 0 */
+    for (k = 0; k < set->slots; k++) {
+        play_slot(shelf, &slot, copies_are_new);
+        if (!copies_are_new && k < SLOTS_SHOWN)
+            print_table(k, set->ports, slot.table);
+    }
+}
+
+static void print_shelf(const struct settings *set)
+{
+    printf("A shelf of %lu ports, load %lu %%, ", set->ports, set->load);
+    if (set->mode == BELLACUSH_CENTRAL)
+        printf("central");
+    else
+        printf("distributed with %lu rounds at most", set->mode);
+    printf(", %lu slots, seed %lu.\n", set->slots, set->seed);
+    printf("Host %u sends to all targets, the others to target %u. Pairs are favoured in turn.\n",
+           busy_host(set), POPULAR_TARGET);
+    printf("Every block comes twice, the second time by the standby link. The first slots:\n");
+}
+
+int main(int argc, char **argv)
+{
+    struct settings set = {4, 90, BELLACUSH_CENTRAL, 0, 1};
+    static struct shelf built, faulty;
+    int k;
+
+    for (k = 1; k < argc; k++) {
+        if (strcmp(argv[k], "help") == 0 || strcmp(argv[k], "--help") == 0) {
+            fputs(usage, stdout);
+            return 0;
+        }
+        take(&set, argv[k]);
+    }
+    if (set.slots == 0)
+        set.slots = 10 * set.ports * set.ports;
+    print_shelf(&set);
+    play(&built, &set, 0);
+    printf("\nAs built: the copy is refused with number %d and changes nothing.\n",
+           BELLACUSH_SLOT_STALE);
+    print_summary(&built);
+    play(&faulty, &set, 1);
+    printf("\nThe faulty way: the copy is taken for a new slot, too late to be of use.\n");
+    print_summary(&faulty);
+    print_moral(&built, &faulty);
+    return 0;
+}

@@ -1,0 +1,217 @@
+/*
+ * Calls every function of the header and checks what comes back. Written in what C99 and C++
+ * share: it is compiled as both. Ends with 'N passed, M failed'.
+ */
+#include "bellacush.h"
+#include "bellacush.h" /* the header may be included twice */
+
+#include <stdio.h>
+#include <string.h>
+
+static unsigned passed, failed;
+
+static void check(const char *what, int holds)
+{
+    if (holds) {
+        passed++;
+    } else {
+        failed++;
+        printf("failed: %s\n", what);
+    }
+}
+
+#define CHECK(test) check(#test, (test))
+
+/* Buffers of one slot call, and a copy of them as they were before it. */
+struct lent {
+    uint8_t state[BELLACUSH_STATE_LEN + 1];
+    uint8_t block[BELLACUSH_BLOCK_LEN(BELLACUSH_MOST_PORTS)];
+    uint8_t out[BELLACUSH_OUT_LEN(BELLACUSH_MOST_PORTS)];
+    uint8_t table[BELLACUSH_TABLE_LEN + 1];
+};
+
+/* A slot of n hosts that ask for these targets, at offsets 0 and 0 with slot 5 due. */
+static struct lent asking(unsigned n, const uint16_t *req)
+{
+    struct lent lent;
+    unsigned h;
+
+    memset(&lent, 0xB7, sizeof lent);
+    memset(lent.state, 0, sizeof lent.state);
+    lent.state[0] = (uint8_t)n;
+    lent.state[6] = 5;
+    for (h = 0; h < n; h++)
+        CHECK(bellacush_write_config(req[h], 0, 0xFFFF, 0xFFFF, lent.block + BELLACUSH_BLOCK_LEN(h),
+                                     BELLACUSH_CONFIG_LEN) == BELLACUSH_DONE);
+    return lent;
+}
+
+static uint32_t slot(struct lent *lent, uint32_t number, uint32_t mode)
+{
+    size_t n = lent->state[0];
+    return bellacush_slot(lent->state, BELLACUSH_STATE_LEN, number, mode, lent->block,
+                          BELLACUSH_BLOCK_LEN(n), 0, lent->out, BELLACUSH_OUT_LEN(n), lent->table,
+                          BELLACUSH_TABLE_LEN);
+}
+
+static int same(const struct lent *a, const struct lent *b)
+{
+    return memcmp(a, b, sizeof *a) == 0;
+}
+
+static void constants_are_document_01s(void)
+{
+    CHECK(BELLACUSH_MOST_PORTS == 16);
+    CHECK(BELLACUSH_STATE_LEN == 7 && BELLACUSH_TABLE_LEN == 32);
+    CHECK(BELLACUSH_CONFIG_LEN == 11 && BELLACUSH_CONFIG_PART_LEN == 8);
+    CHECK(BELLACUSH_GRANT_LEN == 5 && BELLACUSH_GRANT_PART_LEN == 2);
+    CHECK(BELLACUSH_BLOCK_LEN(3) == 33 && BELLACUSH_OUT_LEN(2 + 1) == 15);
+    CHECK(BELLACUSH_DONE == 0 && BELLACUSH_BAD_PORTS == 1 && BELLACUSH_BAD_OFFSET == 2);
+    CHECK(BELLACUSH_SLOT_STALE == 3 && BELLACUSH_SLOT_EARLY == 4 && BELLACUSH_BAD_LIMIT == 5);
+    CHECK(BELLACUSH_BAD_BLOCK_LEN == 6 && BELLACUSH_OUT_TOO_SHORT == 7 && BELLACUSH_BAD_LEN == 8);
+    CHECK(BELLACUSH_BAD_TYPE == 9 && BELLACUSH_BAD_CHECK == 10);
+    CHECK(BELLACUSH_BAD_GRANT_FIELD == 11 && BELLACUSH_NOBODY_JOINED == 12);
+    CHECK(BELLACUSH_NUMBER(2 * 256 + 12) == 12 && BELLACUSH_ROUNDS(2 * 256 + 12) == 2);
+}
+
+/* Case B of document 01, and the frames that come of it. */
+static void central_slot_is_served(void)
+{
+    static const uint16_t req[3] = {3, 1, 6};
+    static const uint8_t table[6] = {0, 1, 0, 0, 0, 2};
+    static const uint8_t grant[3] = {2, 0x21, BELLACUSH_GNT_VAL};
+    struct lent lent = asking(3, req);
+
+    CHECK(slot(&lent, 5, BELLACUSH_CENTRAL) == BELLACUSH_DONE);
+    CHECK(memcmp(lent.table, table, sizeof table) == 0);
+    CHECK(lent.table[6] == 0 && lent.table[31] == 0 && lent.table[32] == 0xB7);
+    CHECK(memcmp(lent.out + BELLACUSH_OUT_LEN(2), grant, sizeof grant) == 0);
+    CHECK(lent.state[0] == 3 && lent.state[1] == 1 && lent.state[2] == 0 && lent.state[6] == 6);
+}
+
+/* Case I of document 01 from its offsets. */
+static void distributed_slot_is_served(void)
+{
+    static const uint16_t req[3] = {3, 7, 4};
+    static const uint8_t table[6] = {0, 2, 0, 1, 0, 4};
+    struct lent lent = asking(3, req);
+    uint32_t word;
+
+    lent.state[1] = 2;
+    word = slot(&lent, 5, 2);
+    CHECK(BELLACUSH_NUMBER(word) == BELLACUSH_DONE && BELLACUSH_ROUNDS(word) == 2);
+    CHECK(memcmp(lent.table, table, sizeof table) == 0);
+    CHECK(lent.state[1] == 0 && lent.state[2] == 1 && lent.state[6] == 6);
+}
+
+static void a_copy_is_refused_and_changes_nothing(void)
+{
+    static const uint16_t req[4] = {15, 15, 15, 15};
+    struct lent lent = asking(4, req), served;
+
+    CHECK(slot(&lent, 5, BELLACUSH_CENTRAL) == BELLACUSH_DONE);
+    served = lent;
+    CHECK(slot(&lent, 5, BELLACUSH_CENTRAL) == BELLACUSH_SLOT_STALE && same(&lent, &served));
+    CHECK(slot(&lent, 7, BELLACUSH_CENTRAL) == BELLACUSH_SLOT_EARLY && same(&lent, &served));
+    CHECK(slot(&lent, 6, 17) == BELLACUSH_BAD_LIMIT && same(&lent, &served));
+    CHECK(slot(&lent, 6, 16) % 256 == BELLACUSH_DONE && !same(&lent, &served));
+}
+
+static void lengths_are_tested(void)
+{
+    static const uint16_t req[2] = {3, 3};
+    struct lent l = asking(2, req), before = l;
+
+    CHECK(bellacush_slot(l.state, 8, 5, 0, l.block, 22, 0, l.out, 10, l.table, 32) ==
+          BELLACUSH_BAD_LEN);
+    CHECK(bellacush_slot(l.state, 7, 5, 0, l.block, 22, 0, l.out, 10, l.table, 33) ==
+          BELLACUSH_BAD_LEN);
+    CHECK(bellacush_slot(l.state, 7, 5, 0, l.block, 21, 0, l.out, 10, l.table, 32) ==
+          BELLACUSH_BAD_BLOCK_LEN);
+    CHECK(bellacush_slot(l.state, 7, 5, 0, l.block, 22, 0, l.out, 9, l.table, 32) ==
+          BELLACUSH_OUT_TOO_SHORT);
+    CHECK(bellacush_slot(NULL, 0, 5, 0, NULL, 0, 0, NULL, 0, NULL, 0) == BELLACUSH_BAD_LEN);
+    CHECK(bellacush_write_config(0, 0, 0, 0, NULL, 0) == BELLACUSH_OUT_TOO_SHORT);
+    CHECK(bellacush_write_grant(0, 0, 0, 0, 0, NULL, 0) == BELLACUSH_OUT_TOO_SHORT);
+    CHECK(bellacush_read_config(NULL, 0, NULL, 0) == BELLACUSH_BAD_LEN);
+    CHECK(bellacush_read_grant(NULL, 0, NULL, 0) == BELLACUSH_BAD_LEN);
+    l.state[1] = before.state[1] = 2;
+    CHECK(slot(&l, 5, 0) == BELLACUSH_BAD_OFFSET);
+    CHECK(same(&l, &before));
+    l.state[0] = 17;
+    CHECK(bellacush_slot(l.state, 7, 5, 0, l.block, 176, 0, l.out, 80, l.table, 32) ==
+          BELLACUSH_BAD_PORTS);
+}
+
+static void link_and_quiet_hosts_are_told(void)
+{
+    static const uint16_t req[2] = {1, 2};
+    struct lent l = asking(2, req);
+
+    memset(l.block + BELLACUSH_CONFIG_LEN, 0, BELLACUSH_CONFIG_LEN);
+    CHECK(bellacush_slot(l.state, 7, 5, 0, l.block, 22, 0xFFFE, l.out, 80, l.table, 32) ==
+          BELLACUSH_DONE);
+    CHECK(l.out[1] == 0x00 && l.out[2] == BELLACUSH_GNT_VAL);
+    CHECK(l.out[6] == 0x10 && l.out[7] == (BELLACUSH_LINK_ERR | BELLACUSH_CRC_ERR));
+    CHECK(l.out[BELLACUSH_OUT_LEN(2)] == 0xB7);
+}
+
+static void config_frames(void)
+{
+    static const uint8_t frame[11] = {1, 0, 1, 0, 2, 0, 3, 0, 4, 0x16, 0x67};
+    uint8_t out[12], part[9], kept[9];
+
+    memset(out, 0xB7, sizeof out);
+    memset(part, 0xB7, sizeof part);
+    memcpy(kept, part, sizeof kept);
+    CHECK(bellacush_write_config(1, 2, 3, 4, out, 10) == BELLACUSH_OUT_TOO_SHORT && out[0] == 0xB7);
+    CHECK(bellacush_write_config(1, 2, 3, 4, out, sizeof out) == BELLACUSH_DONE);
+    CHECK(memcmp(out, frame, sizeof frame) == 0 && out[11] == 0xB7);
+    CHECK(bellacush_read_config(frame, 10, part, 8) == BELLACUSH_BAD_LEN);
+    CHECK(bellacush_read_config(frame, 11, part, 9) == BELLACUSH_BAD_LEN);
+    out[10] ^= 1;
+    CHECK(bellacush_read_config(out, 11, part, 8) == BELLACUSH_BAD_CHECK);
+    out[0] = 2;
+    CHECK(bellacush_read_config(out, 11, part, 8) == BELLACUSH_BAD_TYPE);
+    CHECK(memcmp(part, kept, sizeof part) == 0);
+    CHECK(bellacush_read_config(frame, 11, part, 8) == BELLACUSH_DONE);
+    CHECK(memcmp(part, frame + 1, 8) == 0 && part[8] == 0xB7);
+}
+
+static void grant_frames(void)
+{
+    static const uint8_t frame[5] = {2, 0xC5, 5, 0x1B, 0xF8};
+    uint8_t out[6], part[3];
+
+    memset(out, 0xB7, sizeof out);
+    memset(part, 0xB7, sizeof part);
+    CHECK(bellacush_write_grant(16, 0, 1, 0, 0, out, 4) == BELLACUSH_BAD_GRANT_FIELD);
+    CHECK(bellacush_write_grant(0, 16, 1, 0, 0, out, 5) == BELLACUSH_BAD_GRANT_FIELD);
+    CHECK(bellacush_write_grant(0, 1, 0, 0, 0, out, 5) == BELLACUSH_BAD_GRANT_FIELD);
+    CHECK(bellacush_write_grant(12, 5, 1, 0, 1, out, 4) == BELLACUSH_OUT_TOO_SHORT);
+    CHECK(out[0] == 0xB7);
+    CHECK(bellacush_write_grant(12, 5, 256, 0, 4294967295u, out, sizeof out) == BELLACUSH_DONE);
+    CHECK(memcmp(out, frame, sizeof frame) == 0 && out[5] == 0xB7);
+    CHECK(bellacush_read_grant(frame, 5, part, 3) == BELLACUSH_BAD_LEN);
+    CHECK(bellacush_read_grant(frame, 4, part, 2) == BELLACUSH_BAD_LEN);
+    out[2] |= 8;
+    CHECK(bellacush_read_grant(out, 5, part, 2) == BELLACUSH_BAD_CHECK);
+    out[0] = 1;
+    CHECK(bellacush_read_grant(out, 5, part, 2) == BELLACUSH_BAD_TYPE && part[0] == 0xB7);
+    CHECK(bellacush_read_grant(frame, 5, part, 2) == BELLACUSH_DONE);
+    CHECK(part[0] == 0xC5 && part[1] == (BELLACUSH_GNT_VAL | BELLACUSH_CRC_ERR) && part[2] == 0xB7);
+}
+
+int main(void)
+{
+    constants_are_document_01s();
+    central_slot_is_served();
+    distributed_slot_is_served();
+    a_copy_is_refused_and_changes_nothing();
+    lengths_are_tested();
+    link_and_quiet_hosts_are_told();
+    config_frames();
+    grant_frames();
+    printf("%u passed, %u failed\n", passed, failed);
+    return failed == 0 ? 0 : 1;
+}

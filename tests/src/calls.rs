@@ -1,0 +1,128 @@
+//! The C form's calls, made safe: a slice stands for each pointer and its length.
+
+use std::ffi::c_uchar;
+
+/// The slot call as C sees it.
+pub type SlotCall = unsafe extern "C" fn(
+    state: *mut c_uchar,
+    state_len: usize,
+    slot: u32,
+    mode: u32,
+    block: *const c_uchar,
+    block_len: usize,
+    link: u16,
+    out: *mut c_uchar,
+    out_len: usize,
+    table: *mut c_uchar,
+    table_len: usize,
+) -> u32;
+
+extern "C" {
+    fn bellacush_slot(
+        state: *mut c_uchar,
+        state_len: usize,
+        slot: u32,
+        mode: u32,
+        block: *const c_uchar,
+        block_len: usize,
+        link: u16,
+        out: *mut c_uchar,
+        out_len: usize,
+        table: *mut c_uchar,
+        table_len: usize,
+    ) -> u32;
+    fn bellacush_read_config(
+        frame: *const c_uchar,
+        frame_len: usize,
+        part: *mut c_uchar,
+        part_len: usize,
+    ) -> u32;
+    fn bellacush_read_grant(
+        frame: *const c_uchar,
+        frame_len: usize,
+        part: *mut c_uchar,
+        part_len: usize,
+    ) -> u32;
+    fn bellacush_write_config(
+        req: u16,
+        pre: u16,
+        ben: u16,
+        qen: u16,
+        out: *mut c_uchar,
+        out_len: usize,
+    ) -> u32;
+    fn bellacush_write_grant(
+        node_id: u32,
+        gnt: u32,
+        gnt_val: u32,
+        link_err: u32,
+        crc_err: u32,
+        out: *mut c_uchar,
+        out_len: usize,
+    ) -> u32;
+}
+
+/// The library's slot call itself, for those who call it in a way of their own.
+pub const SLOT: SlotCall = bellacush_slot;
+
+// Each call is sound for any lengths and bytes: a slice is valid for its length, and two
+// slices lent at once do not overlap where one may be written.
+
+pub fn slot(
+    state: &mut [u8],
+    slot: u32,
+    mode: u32,
+    block: &[u8],
+    link: u16,
+    out: &mut [u8],
+    table: &mut [u8],
+) -> u32 {
+    unsafe {
+        bellacush_slot(
+            state.as_mut_ptr(),
+            state.len(),
+            slot,
+            mode,
+            block.as_ptr(),
+            block.len(),
+            link,
+            out.as_mut_ptr(),
+            out.len(),
+            table.as_mut_ptr(),
+            table.len(),
+        )
+    }
+}
+
+pub fn read_config(frame: &[u8], part: &mut [u8]) -> u32 {
+    unsafe { bellacush_read_config(frame.as_ptr(), frame.len(), part.as_mut_ptr(), part.len()) }
+}
+
+pub fn read_grant(frame: &[u8], part: &mut [u8]) -> u32 {
+    unsafe { bellacush_read_grant(frame.as_ptr(), frame.len(), part.as_mut_ptr(), part.len()) }
+}
+
+pub fn write_config(req: u16, pre: u16, ben: u16, qen: u16, out: &mut [u8]) -> u32 {
+    unsafe { bellacush_write_config(req, pre, ben, qen, out.as_mut_ptr(), out.len()) }
+}
+
+pub fn write_grant(
+    node_id: u32,
+    gnt: u32,
+    gnt_val: u32,
+    link_err: u32,
+    crc_err: u32,
+    out: &mut [u8],
+) -> u32 {
+    unsafe {
+        bellacush_write_grant(
+            node_id,
+            gnt,
+            gnt_val,
+            link_err,
+            crc_err,
+            out.as_mut_ptr(),
+            out.len(),
+        )
+    }
+}

@@ -1,0 +1,141 @@
+//! What document 01 promises of each call of the C form, over our own frames and scheduler.
+
+use crate::frames::{Config, Grant, CONFIG_LEN, GRANT_LEN};
+use crate::scheduler::{schedule, Mode, Position, Schedule, MOST_PORTS};
+use crate::slots::{After, Slot, State, STATE_LEN, TABLE_LEN};
+
+const HALF: u32 = 1 << 31;
+
+pub fn slot(call: &Slot) -> After {
+    match refusal(call) {
+        Some(number) => call.kept(number),
+        None => served(call),
+    }
+}
+
+/// The first reason to decline, in document 01's order.
+fn refusal(call: &Slot) -> Option<u32> {
+    if call.state.len() != STATE_LEN || call.table.len() != TABLE_LEN {
+        return Some(8);
+    }
+    let state = State::read(&call.state);
+    let ports = usize::from(state.ports);
+    let behind = state.due.wrapping_sub(call.slot);
+    let tests = [
+        (1, ports == 0 || ports > MOST_PORTS),
+        (
+            2,
+            state.initiator >= state.ports || state.target >= state.ports,
+        ),
+        (3, (1..=HALF).contains(&behind)),
+        (4, behind > HALF),
+        (5, call.mode > 16),
+        (6, call.block.len() != CONFIG_LEN * ports),
+        (7, call.out.len() < GRANT_LEN * ports),
+    ];
+    tests.iter().find(|test| test.1).map(|test| test.0)
+}
+
+fn served(call: &Slot) -> After {
+    let state = State::read(&call.state);
+    let hosts: Vec<Option<Config>> = call
+        .block
+        .chunks(CONFIG_LEN)
+        .map(|frame| Config::read(frame).ok())
+        .collect();
+    let mode = match call.mode {
+        0 => Mode::Central,
+        limit => Mode::Distributed { limit },
+    };
+    let at = Position {
+        ports: hosts.len(),
+        first_initiator: usize::from(state.initiator),
+        first_target: usize::from(state.target),
+    };
+    let made = schedule(at, mode, &hosts);
+    let mut after = call.kept(made.rounds * 256);
+    after.state = advanced(state).bytes();
+    after.table = table(&made);
+    for (host, heard) in hosts.iter().enumerate() {
+        let frame = grant(host, &made, call.link, heard.is_some()).frame();
+        after.out[GRANT_LEN * host..][..GRANT_LEN].copy_from_slice(&frame);
+    }
+    after
+}
+
+fn advanced(state: State) -> State {
+    let mut next = state;
+    next.due = if state.due == u32::MAX {
+        0
+    } else {
+        state.due + 1
+    };
+    next.initiator = (state.initiator + 1) % state.ports;
+    if next.initiator == 0 {
+        next.target = (state.target + 1) % state.ports;
+    }
+    next
+}
+
+fn table(made: &Schedule) -> Vec<u8> {
+    let weigh = |row: &[bool], from: usize| -> u8 {
+        (0..8).map(|bit| u8::from(row[from + bit]) << bit).sum()
+    };
+    made.held
+        .iter()
+        .flat_map(|row| [weigh(row, 8), weigh(row, 0)])
+        .collect()
+}
+
+fn grant(host: usize, made: &Schedule, link: u16, heard: bool) -> Grant {
+    let lowest = made.held[host].iter().position(|&held| held);
+    Grant {
+        node_id: host as u32,
+        gnt: lowest.unwrap_or(0) as u32,
+        gnt_val: lowest.is_some(),
+        link_err: link >> host & 1 == 1,
+        crc_err: !heard,
+    }
+}
+
+/// A reader's number, and the part as it leaves it.
+pub fn read_config(frame: &[u8], part: &[u8]) -> (u32, Vec<u8>) {
+    if part.len() != CONFIG_LEN - 3 {
+        return (8, part.to_vec());
+    }
+    copied(Config::read(frame).err(), frame, part)
+}
+
+pub fn read_grant(frame: &[u8], part: &[u8]) -> (u32, Vec<u8>) {
+    if part.len() != GRANT_LEN - 3 {
+        return (8, part.to_vec());
+    }
+    copied(Grant::read(frame).err(), frame, part)
+}
+
+fn copied(refused: Option<u32>, frame: &[u8], part: &[u8]) -> (u32, Vec<u8>) {
+    match refused {
+        Some(number) => (number, part.to_vec()),
+        None => (0, frame[1..frame.len() - 2].to_vec()),
+    }
+}
+
+/// A writer's number, and the output as it leaves it.
+pub fn write_config(config: Config, out: &[u8]) -> (u32, Vec<u8>) {
+    written(config.frame(), out)
+}
+
+pub fn write_grant(grant: Grant, out: &[u8]) -> (u32, Vec<u8>) {
+    if !grant.fits() {
+        return (11, out.to_vec());
+    }
+    written(grant.frame(), out)
+}
+
+fn written(frame: Vec<u8>, out: &[u8]) -> (u32, Vec<u8>) {
+    if out.len() < frame.len() {
+        return (7, out.to_vec());
+    }
+    let beyond = out[frame.len()..].to_vec();
+    (0, [frame, beyond].concat())
+}

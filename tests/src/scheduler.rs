@@ -1,0 +1,247 @@
+//! An independent scheduler: Figure 2 of the report over a Boolean matrix and counters, and the
+//! distributed form of its section 5 as messages between initiators and targets. Where the
+//! report is silent, document 01 decides.
+
+// rows and columns are named as in the report
+#![allow(clippy::needless_range_loop)]
+
+use crate::frames::Config;
+
+pub const MOST_PORTS: usize = 16;
+
+/// `m[i][t]`: something holds of initiator i and target t.
+pub type Matrix = [[bool; MOST_PORTS]; MOST_PORTS];
+
+#[derive(Clone, Copy, Debug, PartialEq)]
+pub enum Mode {
+    Central,
+    Distributed { limit: u32 },
+}
+
+/// Ports and offsets: `first_initiator` is I and `first_target` is J.
+#[derive(Clone, Copy, Debug, PartialEq)]
+pub struct Position {
+    pub ports: usize,
+    pub first_initiator: usize,
+    pub first_target: usize,
+}
+
+#[derive(Clone, Copy, Debug, PartialEq)]
+pub struct Schedule {
+    pub held: Matrix,
+    pub rounds: u32,
+}
+
+/// One slot; `None` is a host that is not heard.
+pub fn schedule(at: Position, mode: Mode, hosts: &[Option<Config>]) -> Schedule {
+    assert_eq!(hosts.len(), at.ports);
+    let enabled = enabled(hosts);
+    let mut slot = Slot {
+        at,
+        live: [[false; MOST_PORTS]; MOST_PORTS],
+        held: [[false; MOST_PORTS]; MOST_PORTS],
+    };
+    slot.keep_planned(&said(hosts, &enabled, |config| config.pre));
+    slot.raise_requests(&said(hosts, &enabled, |config| config.req));
+    let rounds = match mode {
+        Mode::Central => {
+            slot.match_central();
+            0
+        }
+        Mode::Distributed { limit } => slot.match_distributed(limit),
+    };
+    Schedule {
+        held: slot.held,
+        rounds,
+    }
+}
+
+fn bit(word: u16, at: usize) -> bool {
+    word & (1 << at) != 0
+}
+
+/// Who is enabled: nobody heard votes against it.
+fn enabled(hosts: &[Option<Config>]) -> Vec<bool> {
+    (0..hosts.len())
+        .map(|initiator| {
+            hosts
+                .iter()
+                .flatten()
+                .all(|voter| bit(voter.ben, initiator))
+        })
+        .collect()
+}
+
+/// A field of the heard and enabled hosts as a matrix, without targets at or above n.
+fn said(hosts: &[Option<Config>], enabled: &[bool], field: fn(&Config) -> u16) -> Matrix {
+    let mut matrix = [[false; MOST_PORTS]; MOST_PORTS];
+    for (initiator, host) in hosts.iter().enumerate() {
+        let Some(config) = host else { continue };
+        for (target, set) in matrix[initiator][..hosts.len()].iter_mut().enumerate() {
+            *set = enabled[initiator] && bit(field(config), target);
+        }
+    }
+    matrix
+}
+
+/// A message of the distributed form: who sends it, and how many such it sends or has had.
+struct Message {
+    from: usize,
+    count: usize,
+}
+
+struct Slot {
+    at: Position,
+    live: Matrix,
+    held: Matrix,
+}
+
+impl Slot {
+    /// How many steps the rotation that starts at `start` takes to come to `place`.
+    fn steps(&self, start: usize, place: usize) -> usize {
+        (place + self.at.ports - start) % self.at.ports
+    }
+
+    /// (I + t - J) mod n
+    fn start_at_target(&self, target: usize) -> usize {
+        (self.at.first_initiator + target + self.at.ports - self.at.first_target) % self.at.ports
+    }
+
+    /// (J + i - I) mod n
+    fn start_at_initiator(&self, initiator: usize) -> usize {
+        (self.at.first_target + initiator + self.at.ports - self.at.first_initiator) % self.at.ports
+    }
+
+    fn keep_planned(&mut self, planned: &Matrix) {
+        for target in 0..self.at.ports {
+            let start = self.start_at_target(target);
+            let claimants = (0..self.at.ports).filter(|&i| planned[i][target]);
+            if let Some(kept) = claimants.min_by_key(|&i| self.steps(start, i)) {
+                self.held[kept][target] = true;
+            }
+        }
+    }
+
+    /// Requests are live where neither the initiator nor the target is in the planned part.
+    fn raise_requests(&mut self, asked: &Matrix) {
+        let n = self.at.ports;
+        for initiator in 0..n {
+            let planner = self.held[initiator].contains(&true);
+            for target in 0..n {
+                let given = (0..n).any(|i| self.held[i][target]);
+                self.live[initiator][target] = asked[initiator][target] && !planner && !given;
+            }
+        }
+    }
+
+    fn join(&mut self, initiator: usize, target: usize) {
+        assert!(self.live[initiator][target]);
+        self.held[initiator][target] = true;
+        self.live[initiator] = [false; MOST_PORTS];
+        for row in &mut self.live {
+            row[target] = false;
+        }
+    }
+
+    fn count_requests(&self, initiator: usize) -> usize {
+        self.live[initiator].iter().filter(|&&live| live).count()
+    }
+
+    /// Figure 2, line by line, with its own counters.
+    fn match_central(&mut self) {
+        let n = self.at.ports;
+        let mut nrq: Vec<usize> = (0..n).map(|req| self.count_requests(req)).collect();
+        for res in 0..n {
+            let column = (self.at.first_target + res) % n;
+            let diagonal = (self.at.first_initiator + res) % n;
+            let mut gnt = None;
+            if self.live[diagonal][column] {
+                gnt = Some(diagonal);
+            } else {
+                let mut min = n + 1;
+                for req in 0..n {
+                    let row = (req + diagonal) % n;
+                    if self.live[row][column] && nrq[row] < min {
+                        gnt = Some(row);
+                        min = nrq[row];
+                    }
+                }
+            }
+            let Some(winner) = gnt else { continue };
+            for (row, count) in nrq.iter_mut().enumerate() {
+                *count -= usize::from(self.live[row][column]);
+            }
+            nrq[winner] = 0;
+            self.join(winner, column);
+        }
+    }
+
+    fn match_distributed(&mut self, limit: u32) -> u32 {
+        let (initiator, target) = (self.at.first_initiator, self.at.first_target);
+        if self.live[initiator][target] {
+            self.join(initiator, target);
+        }
+        let mut rounds = 0;
+        while rounds < limit && self.live.iter().flatten().any(|&live| live) {
+            let pairs = self.accepts(&self.grants(&self.requests()));
+            assert!(
+                !pairs.is_empty(),
+                "a round with a live request joined nobody"
+            );
+            for (initiator, target) in pairs {
+                self.join(initiator, target);
+            }
+            rounds += 1;
+        }
+        rounds
+    }
+
+    /// What each target hears: who asks, and how many it asks.
+    fn requests(&self) -> Vec<Vec<Message>> {
+        (0..self.at.ports)
+            .map(|target| {
+                (0..self.at.ports)
+                    .filter(|&from| self.live[from][target])
+                    .map(|from| Message {
+                        from,
+                        count: self.count_requests(from),
+                    })
+                    .collect()
+            })
+            .collect()
+    }
+
+    /// What each initiator hears back: who grants, and how many had asked there.
+    fn grants(&self, requests: &[Vec<Message>]) -> Vec<Vec<Message>> {
+        let mut grants: Vec<Vec<Message>> = (0..self.at.ports).map(|_| Vec::new()).collect();
+        for (target, heard) in requests.iter().enumerate() {
+            if let Some(initiator) = self.least(heard, self.start_at_target(target)) {
+                grants[initiator].push(Message {
+                    from: target,
+                    count: heard.len(),
+                });
+            }
+        }
+        grants
+    }
+
+    /// The pairs that come of it.
+    fn accepts(&self, grants: &[Vec<Message>]) -> Vec<(usize, usize)> {
+        grants
+            .iter()
+            .enumerate()
+            .filter_map(|(initiator, heard)| {
+                let target = self.least(heard, self.start_at_initiator(initiator))?;
+                Some((initiator, target))
+            })
+            .collect()
+    }
+
+    /// The sender with the lowest count, among equals the first in the rotation.
+    fn least(&self, heard: &[Message], start: usize) -> Option<usize> {
+        heard
+            .iter()
+            .min_by_key(|message| (message.count, self.steps(start, message.from)))
+            .map(|message| message.from)
+    }
+}
