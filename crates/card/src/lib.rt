@@ -1,0 +1,21 @@
+// The card's slot loop keeps one state and lends it for each slot call.
+ghost use Rattle.frames.specs.Part.{mostPorts};
+ghost use Rattle.card.specs.Slot.{Lent};
+use lcf::Answer;
+use lcf::Mode;
+use lcf::State;
+
+pub fn slot(
+    state: &mut State,
+    slot: u32,
+    mode: Mode,
+    block: &[u8],
+    link: u16,
+    out: &mut [u8],
+) -> Answer
+    ensures { λ r. ⌜ Lent mostPorts (now (state .entry)) slot mode (now (block .entry)) link (now (out .entry)) r (now (state .exit)) (now (out .exit)) ⌝ }
+{
+    let stepped = shelf::step(*state, slot, mode, block, link, out);
+    *state = stepped.state;
+    stepped.answer
+}

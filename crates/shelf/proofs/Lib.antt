@@ -1,0 +1,7 @@
+pub mod Granting
+pub mod Hearing
+pub mod Lowest
+pub mod Refusals
+pub mod Stepping
+pub mod Unique
+pub mod Voting

@@ -1,0 +1,38 @@
+-- What is known of a slot that none of the numbers 1 to 7 declines.
+use mathlib.Core.Path.{_≡_, refl}
+use mathlib.Core.Bool.{Bool, true, false, not, cond}
+use mathlib.Core.List.{List}
+use Prim.Native.Nat.{ℕ, zero, suc, _*_, _≤_}
+use native.Mathlib.Omega.{arith}
+use lib.Dec.{ltb, eqb·suc-zero}
+use lib.ListN.{length}
+use borrow.Author.Tests.{ltb-false}
+use Rattle.frames.specs.Frame.{differs}
+use Rattle.frames.specs.Config.{configLen}
+use Rattle.frames.specs.Grant.{grantLen}
+use Rattle.lcf.specs.Slot.{dueNumber}
+use Rattle.lcf.specs.Ready.{Ready}
+use Rattle.lcf.proofs.Slots.{Served, served}
+use Rattle.lcf.specs.declared.state.State.{State}
+use Rattle.lcf.specs.declared.state.Mode.{Mode}
+use Rattle.shelf.specs.Step.{refusal}
+
+pub due-ports : (m : ℕ) (st : State) (slot : ℕ) (mode : Mode) → dueNumber m st slot mode ≡ 0 → st .ports ≤ m
+due-ports m st slot mode e = served m st slot mode e .ready .ports
+
+-- none of three numbers is given
+none-given : (number : ℕ) (b c : Bool) → cond (differs number 0) number (cond b 6 (cond c 7 0)) ≡ 0 → (number ≡ 0) × (c ≡ false)
+none-given zero false false e = (refl, refl)
+none-given zero false true e = absurd (omega arith)
+none-given zero true c e = absurd (omega arith)
+none-given (suc k) b c e = absurd (omega (arith, rw (eqb·suc-zero k) at e))
+
+pub record Taken (m : ℕ) (st : State) (out : List ℕ) : Type 0 where
+  pub ports : st .ports ≤ m
+  pub room : st .ports * grantLen ≤ length out
+
+pub taken : (m : ℕ) (st : State) (slot : ℕ) (mode : Mode) (block out : List ℕ) → refusal m st slot mode block out ≡ 0 → Taken m st out
+unfolding refusal
+taken m st slot mode block out e =
+    let (due, room) = none-given (dueNumber m st slot mode) (differs (length block) (st .ports * configLen)) (ltb (length out) (st .ports * grantLen)) e in
+    record { ports = due-ports m st slot mode due; room = ltb-false (length out) (st .ports * grantLen) room }

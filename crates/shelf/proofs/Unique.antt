@@ -1,0 +1,11 @@
+-- The step's promise allows one result, and one final content of the output. `Learnt` is what the contract tells a caller at the
+-- arguments a.
+use mathlib.Core.Path.{_≡_}
+use denote.Ref.{now}
+use Rattle.laws.proofs.Unique.{the-result}
+use Rattle.lcf.specs.declared.work.Stepped.{Stepped}
+use Rattle.shelf.proofs.by_value.step.Reads as step
+
+pub step-once : (κs a : _) (r s : Stepped) (x y : _) → step.Learnt κs a r x → step.Learnt κs a s y
+    → (r ≡ s) × (now (x .1 .1 .1 .1 .1 .0) ≡ now (y .1 .1 .1 .1 .1 .0))
+step-once κs a r s x y p q = (the-result (p .0) (q .0), the-result (p .1) (q .1))

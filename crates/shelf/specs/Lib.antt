@@ -1,0 +1,4 @@
+pub mod Grants
+pub mod Hosts
+pub mod Step
+pub mod Voting

@@ -1,0 +1,77 @@
+// One slot, from bytes to bytes, by value.
+ghost use mathlib.Core.Path.{_≡_};
+ghost use Prim.Native.Nat.{_≤_};
+ghost use Rattle.frames.specs.Part.{mostPorts};
+ghost use Rattle.lcf.specs.Slot.{declined};
+ghost use Rattle.shelf.specs.Step.{refusal, slotOnHosts, stepped, output};
+use crate::grants::write_grants;
+use crate::hosts::Hosts;
+use crate::hosts::hear;
+use crate::votes::admitted;
+use crate::votes::passed;
+use frames::Config;
+use frames::Grant;
+use lcf::Answer;
+use lcf::Mode;
+use lcf::State;
+use lcf::Stepped;
+
+fn refusal(state: State, slot: u32, mode: Mode, block: &[u8], out: &[u8]) -> u8
+    ensures { λ r. ⌜ r ≡ refusal mostPorts state slot mode (now (block .entry)) (now (out .entry)) ⌝ }
+{
+    let number = lcf::due_number(state, slot, mode);
+    if number != 0 {
+        return number;
+    }
+    if block.len() != state.ports * Config::LEN {
+        return 6;
+    }
+    if out.len() < state.ports * Grant::LEN {
+        return 7;
+    }
+    0
+}
+
+fn declined(state: State, number: u8) -> Stepped
+    ensures { λ r. ⌜ r ≡ declined mostPorts state number ⌝ }
+{
+    Stepped {
+        state: state,
+        answer: Answer {
+            number: number,
+            rounds: 0,
+            sets: [0; State::MOST],
+        },
+    }
+}
+
+fn slot_on_hosts(state: State, slot: u32, mode: Mode, hosts: Hosts) -> Stepped
+    requires { ⌜ state .ports ≤ mostPorts ⌝ }
+    ensures { λ r. ⌜ r ≡ slotOnHosts mostPorts state slot mode hosts ⌝ }
+{
+    let ben = hosts.ben;
+    let req = hosts.req;
+    let pre = hosts.pre;
+    let present = passed(state.ports, hosts.heard, ben);
+    let asked = admitted(state.ports, present, req);
+    let claimed = admitted(state.ports, present, pre);
+    lcf::slot_on_tables(state, slot, mode, asked, claimed)
+}
+
+pub fn step(state: State, slot: u32, mode: Mode, block: &[u8], link: u16, out: &mut [u8]) -> Stepped
+    ensures { λ r. ⌜ (r ≡ stepped mostPorts state slot mode (now (block .entry)) (now (out .entry))) × (now (out .exit) ≡ output mostPorts state slot mode (now (block .entry)) link (now (out .entry))) ⌝ }
+{
+    let number = refusal(state, slot, mode, block, out);
+    if number != 0 {
+        return declined(state, number);
+    }
+    let hosts = hear(state.ports, block);
+    let stepped = slot_on_hosts(state, slot, mode, hosts);
+    let answer = stepped.answer;
+    let sets = answer.sets;
+    if answer.number != 0 {
+        return stepped;
+    }
+    write_grants(state.ports, hosts.heard, link, sets, out);
+    stepped
+}

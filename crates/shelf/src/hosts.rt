@@ -1,0 +1,48 @@
+// What the hosts say in a slot.
+ghost use mathlib.Core.Path.{_≡_};
+ghost use Prim.Native.Nat.{_≤_};
+ghost use Rattle.frames.specs.Part.{mostPorts};
+ghost use Rattle.frames.specs.Config.{configAnswer};
+ghost use Rattle.shelf.specs.Hosts.{said, hostsOf};
+use frames::ConfigRead;
+use lcf::State;
+
+pub struct Hosts {
+    pub heard: u16,
+    pub req: [u16; State::MOST],
+    pub pre: [u16; State::MOST],
+    pub ben: [u16; State::MOST],
+}
+
+fn hear_host(ports: usize, h: usize, block: &[u8]) -> ConfigRead
+    ensures { λ r. ⌜ configAnswer r ≡ said mostPorts ports (now (block .entry)) h ⌝ }
+{
+    let mut number: u8 = 0;
+    let frame = frames::host_frame(ports, h, block, &mut number);
+    frames::read_config(frame)
+}
+
+pub(crate) fn hear(ports: usize, block: &[u8]) -> Hosts
+    requires { ⌜ ports ≤ mostPorts ⌝ }
+    ensures { λ r. ⌜ r ≡ hostsOf mostPorts ports (now (block .entry)) ⌝ }
+{
+    let mut heard: u16 = 0;
+    let mut req = [0u16; State::MOST];
+    let mut pre = [0u16; State::MOST];
+    let mut ben = [0u16; State::MOST];
+    for h in 0..ports {
+        let ConfigRead::Frame(c) = hear_host(ports, h, block) else {
+            continue;
+        };
+        heard = heard | (1 << h);
+        req[h] = c.req;
+        pre[h] = c.pre;
+        ben[h] = c.ben;
+    }
+    Hosts {
+        heard,
+        req,
+        pre,
+        ben,
+    }
+}
