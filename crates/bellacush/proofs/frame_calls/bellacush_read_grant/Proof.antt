@@ -1,0 +1,21 @@
+use mathlib.Core.Path.{_≡_, ap, _∙_, sym}
+use native.Mathlib.Omega.{arith}
+use borrow.Author.Needs.{needs}
+use Rattle.frames.specs.Frame.{Answer}
+use Rattle.frames.specs.declared.grant.Grant.{Grant}
+use Rattle.bellacush.proofs.Parts.{grant-length}
+use Rattle.bellacush.proofs.frame_calls.bellacush_read_grant.Statement.{statement}
+use Rattle.bellacush.proofs.frame_calls.bellacush_read_grant.Tie as tie
+
+pub bellacush-read-grant-spec : {M : Type 1} → statement M
+bellacush-read-grant-spec =
+    tie.close
+    (tie.spec (λ c κs. search needs) (λ c κs. search needs)
+    (λ c κs.
+    let is = c .before .grant-number .ensures ∙ ap (λ (a : Answer Grant). a .number) (c .before .before .read-grant .ensures) in
+    (omega arith, λ none. grant-length _ (sym is ∙ none)))
+    (λ c. search needs)
+    (λ c.
+    let read = c .before .before .before .before in
+    let is = read .grant-number .ensures ∙ ap (λ (a : Answer Grant). a .number) (read .before .read-grant .ensures) in
+    rw (← is) (c .before .before .show-part .ensures)))

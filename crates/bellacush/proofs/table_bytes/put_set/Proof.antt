@@ -1,0 +1,12 @@
+use lib.Seq.{sets-eq}
+use borrow.Author.Needs.{needs}
+use Rattle.laws.specs.Bytes.{bigEndian}
+use Rattle.bellacush.proofs.table_bytes.put_set.Statement.{statement}
+use Rattle.bellacush.proofs.table_bytes.put_set.Tie as tie
+
+pub put-set-spec : {M : Type 1} → statement M
+unfolding bigEndian
+put-set-spec =
+    tie.close
+    (tie.spec (λ c. search needs) (λ c. search needs) (λ c. search needs) (λ c. search needs) (λ c. search needs)
+    (λ c. sets-eq (bigEndian 2 (c .args .set)) (c .args .out .now) 0 (c .pre)))

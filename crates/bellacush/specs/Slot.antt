@@ -1,0 +1,60 @@
+-- The C form of the slot call: the state is seven bytes, the mode a number, the sets two bytes each.
+use Prim.Native.Nat.{ℕ, _+_, _*_}
+use mathlib.Core.Bool.{Bool, _&&_, cond}
+use mathlib.Core.List.{List, _++_}
+use lib.Dec.{eqb}
+use lib.ListN.{length, getD, take, drop}
+use Rattle.laws.specs.Bytes.{bigEndian, number, row}
+use Rattle.lcf.specs.declared.state.State.{State}
+use Rattle.lcf.specs.declared.state.Mode.{Mode}
+use Rattle.lcf.specs.declared.state.Mode.the-variants.{Central, Distributed}
+use Rattle.lcf.specs.declared.work.Answer.{Answer}
+use Rattle.lcf.specs.declared.work.Stepped.{Stepped}
+use Rattle.shelf.specs.Step.{stepped, output}
+
+-- n, I and J, a byte each, and the slot due, four bytes
+unfoldable pub stateOf : List ℕ → State
+stateOf s = record { ports = getD s 0 0; initiator = record { 0 = getD s 1 0 }; target = record { 0 = getD s 2 0 }; due = number (take 4 (drop 3 s)) }
+
+unfoldable pub stateBytes : State → List ℕ
+stateBytes st = bigEndian 1 (st .ports) ++ bigEndian 1 (st .initiator .0) ++ bigEndian 1 (st .target .0) ++ bigEndian 4 (st .due)
+
+abbrev pub stateLen : ℕ
+stateLen = 7
+
+-- mode 0 is central, and any other mode is the round limit
+unfoldable pub modeOf : ℕ → Mode
+modeOf mode = cond (eqb mode 0) Central (Distributed mode)
+
+-- the number plus 256 times the rounds
+abbrev pub wordOf : Answer → ℕ
+wordOf a = a .number + 256 * a .rounds
+
+-- the state's bytes and the table's after a slot: the new where it was served, and otherwise what they held
+unfoldable pub stateAfter : Stepped → List ℕ → List ℕ
+stateAfter r state = cond (eqb (r .answer .number) 0) (stateBytes (r .state)) state
+
+unfoldable pub tableAfter : Stepped → List ℕ → List ℕ
+tableAfter r table = cond (eqb (r .answer .number) 0) (row 2 (r .answer .sets)) table
+
+module _ (m : ℕ) (state : List ℕ) (slot mode : ℕ) (block : List ℕ) where
+  module _ (out table : List ℕ) where
+    -- the state is seven bytes, and the table two for each of m sets
+    unfoldable pub fits : Bool
+    fits = eqb (length state) stateLen && eqb (length table) (m * 2)
+
+    unfoldable pub run : Stepped
+    run = stepped m (stateOf state) slot (modeOf mode) block out
+
+    -- 8 before every other number; what is lent then stays
+    unfoldable pub slotWord : ℕ
+    slotWord = cond fits (wordOf (run .answer)) 8
+
+    unfoldable pub slotState : List ℕ
+    slotState = cond fits (stateAfter run state) state
+
+    unfoldable pub slotTable : List ℕ
+    slotTable = cond fits (tableAfter run table) table
+
+  unfoldable pub slotOutput : ℕ → List ℕ → List ℕ → List ℕ
+  slotOutput link out table = cond (fits out table) (output m (stateOf state) slot (modeOf mode) block link out) out

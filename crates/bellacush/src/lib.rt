@@ -1,0 +1,11 @@
+// The C form: what firmware and the backend link.
+mod frame_calls;
+mod slot_call;
+mod state_bytes;
+mod table_bytes;
+
+pub use frame_calls::bellacush_read_config;
+pub use frame_calls::bellacush_read_grant;
+pub use frame_calls::bellacush_write_config;
+pub use frame_calls::bellacush_write_grant;
+pub use slot_call::bellacush_slot;

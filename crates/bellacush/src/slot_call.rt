@@ -1,0 +1,70 @@
+// The slot call of the C form.
+ghost use mathlib.Core.Path.{_≡_};
+ghost use Prim.Native.Nat.{_*_};
+ghost use lib.ListN.{length};
+ghost use Rattle.frames.specs.Part.{mostPorts};
+ghost use Rattle.bellacush.specs.Slot.{stateLen, modeOf, wordOf, stateAfter, tableAfter, slotWord, slotState, slotTable, slotOutput};
+use crate::state_bytes::STATE_LEN;
+use crate::state_bytes::state_bytes;
+use crate::state_bytes::state_of;
+use crate::table_bytes::TABLE_LEN;
+use crate::table_bytes::put_table;
+use lcf::Answer;
+use lcf::Mode;
+use lcf::Stepped;
+
+fn mode_of(mode: u32) -> Mode
+    ensures { λ r. ⌜ r ≡ modeOf mode ⌝ }
+{
+    if mode == 0 {
+        Mode::Central
+    } else {
+        Mode::Distributed(mode)
+    }
+}
+
+fn word_of(answer: Answer) -> u32
+    ensures { λ r. ⌜ r ≡ wordOf answer ⌝ }
+{
+    answer.number as u32 + 256 * answer.rounds as u32
+}
+
+// Stores the next state and the sets of a slot that was served.
+fn store(stepped: Stepped, state: &mut [u8], table: &mut [u8])
+    requires { ⌜ (length (now state) ≡ stateLen) × (length (now table) ≡ 32) ⌝ }
+    ensures { λ _. ⌜ (now (state .exit) ≡ stateAfter stepped (now (state .entry))) × (now (table .exit) ≡ tableAfter stepped (now (table .entry))) ⌝ }
+{
+    let next = stepped.state;
+    let answer = stepped.answer;
+    let sets = answer.sets;
+    if answer.number != 0 {
+        return;
+    }
+    let bytes = state_bytes(next);
+    bytes::copy(&bytes, state);
+    put_table(sets, table);
+}
+
+#[no_mangle]
+pub extern "C" fn bellacush_slot(
+    state: &mut [u8],
+    slot: u32,
+    mode: u32,
+    block: &[u8],
+    link: u16,
+    out: &mut [u8],
+    table: &mut [u8],
+) -> u32
+    ensures { λ r. ⌜ (r ≡ slotWord mostPorts (now (state .entry)) slot mode (now (block .entry)) (now (out .entry)) (now (table .entry))) × (now (state .exit) ≡ slotState mostPorts (now (state .entry)) slot mode (now (block .entry)) (now (out .entry)) (now (table .entry))) × (now (table .exit) ≡ slotTable mostPorts (now (state .entry)) slot mode (now (block .entry)) (now (out .entry)) (now (table .entry))) × (now (out .exit) ≡ slotOutput mostPorts (now (state .entry)) slot mode (now (block .entry)) link (now (out .entry)) (now (table .entry))) ⌝ }
+{
+    if state.len() != STATE_LEN {
+        return 8;
+    }
+    if table.len() != TABLE_LEN {
+        return 8;
+    }
+    let stepped = shelf::step(state_of(state), slot, mode_of(mode), block, link, out);
+    store(stepped, state, table);
+    let answer = stepped.answer;
+    word_of(answer)
+}

@@ -1,0 +1,27 @@
+// The sixteen sets as thirty-two bytes.
+ghost use mathlib.Core.Path.{_≡_};
+ghost use Prim.Native.Nat.{_≤_};
+ghost use mathlib.Core.List.{_++_};
+ghost use lib.ListN.{length, drop};
+ghost use Rattle.laws.specs.Bytes.{bigEndian, row};
+use lcf::State;
+
+pub(crate) const TABLE_LEN: usize = 32;
+
+fn put_set(set: u16, out: &mut [u8])
+    requires { ⌜ 2 ≤ length (now out) ⌝ }
+    ensures { λ _. ⌜ now (out .exit) ≡ bigEndian 2 set ++ drop 2 (now (out .entry)) ⌝ }
+{
+    out[0] = (set / 256 % 256) as u8;
+    out[1] = (set % 256) as u8;
+}
+
+pub(crate) fn put_table(sets: [u16; State::MOST], table: &mut [u8])
+    requires { ⌜ length (now table) ≡ 32 ⌝ }
+    ensures { λ _. ⌜ now (table .exit) ≡ row 2 sets ⌝ }
+{
+    for i in 0..State::MOST {
+        let at = i * 2;
+        put_set(sets[i], &mut table[at..]);
+    }
+}
