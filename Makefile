@@ -58,7 +58,11 @@ test-c: build/calls-c build/calls-cpp build/shelf
 	./build/calls-cpp
 	tests/c/shelf ./build/shelf
 
-bench: $(LIBRARY)
+target/staticlib/libmeasured.a: $(SOURCES)
+	rt staticlib measured
+	@touch $@
+
+bench: $(LIBRARY) target/staticlib/libmeasured.a
 	$(CARGO) run --offline --quiet --release --package bellacush-bench
 
 install: $(LIBRARY)
