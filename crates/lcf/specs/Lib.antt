@@ -1,6 +1,7 @@
 pub mod Ready
 pub mod Heard
 pub mod Choice
+pub mod Scan
 pub mod Join
 pub mod Planned
 pub mod Central

@@ -29,7 +29,7 @@ pub(crate) fn clear(s: u16, k: usize) -> u16
 }
 
 // The row's bits below n.
-fn clip(row: u16, n: usize) -> u16
+pub(crate) fn clip(row: u16, n: usize) -> u16
     requires { ⌜ n ≤ 16 ⌝ }
     ensures { λ r. ⌜ r ≡ row % 2 ^ n ⌝ }
 {
