@@ -22,14 +22,11 @@ module _ {A : Type 0} (f : ℕ → A → A) (x : A) where
   pub done : (n k : ℕ) {u : A} → u ≡ steps f x k → k ≤ n → n ≤ k → u ≡ steps f x n
   done n k e h l = rw (le-antisymm h l) at e
 
-  -- what every step keeps
-  pub kept : (P : A → Type 0) (n : ℕ) → ((k : ℕ) (u : A) → k < n → P u → P (f k u)) → P x → P (steps f x n)
-  unfolding steps
-  kept P n h p = go n (omega arith)
-    where
-      go : (k : ℕ) → k ≤ n → P (steps f x k)
-      go zero l = p
-      go (suc k) l = h k (steps f x k) l (go k (omega arith))
+-- steps that agree
+pub same-steps : {A : Type 0} (f g : ℕ → A → A) (x : A) (n : ℕ) → ((k : ℕ) (u : A) → k < n → f k u ≡ g k u) → steps f x n ≡ steps g x n
+unfolding steps
+same-steps f g x zero h = refl
+same-steps f g x (suc n) h = rw (same-steps f g x n (λ k u l. h k u (omega arith)), h n _ (omega arith))
 
 -- what `search` needs at a loop whose invariant is such an equation
 pub ruleset loop = (needs, none, again, done)

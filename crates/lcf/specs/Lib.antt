@@ -6,5 +6,6 @@ pub mod Join
 pub mod Planned
 pub mod Central
 pub mod Distributed
+pub mod Offers
 pub mod Advance
 pub mod Slot

@@ -46,14 +46,14 @@ pub(crate) fn first_target(state: State, i: Initiator) -> Target
 
 fn contend(
     among: u16,
-    numbers: [u32; State::MOST],
+    numbers: &[u32; State::MOST],
     n: usize,
     from: usize,
     k: usize,
     best: usize,
 ) -> usize
     requires { ⌜ (n ≤ 16) × (from < n) × (k < n) × (best < n) ⌝ }
-    ensures { λ r. ⌜ (r ≡ better (has among) (λ x. getD numbers x 0) (place n from k) best) × (r < n) ⌝ }
+    ensures { λ r. ⌜ (r ≡ better (has among) (λ x. getD (now (numbers .entry)) x 0) (place n from k) best) × (r < n) ⌝ }
 {
     let x = wrapped(from + k, n);
     if holds(among, x) & (!holds(among, best) | (numbers[x] < numbers[best])) {
@@ -80,9 +80,9 @@ fn rotated(among: u16, n: usize, from: usize) -> u32
 }
 
 // To the next member at once: who does not ask costs no time.
-fn next(among: u16, numbers: [u32; State::MOST], n: usize, from: usize, scan: Scan) -> Scan
-    requires { ⌜ (n ≤ 16) × (from < n) × (scan .left ≡ 0 → ⊥) × (Scanned (has among) (λ x. getD numbers x 0) n from scan) ⌝ }
-    ensures { λ r. ⌜ (r .left < scan .left) × (Scanned (has among) (λ x. getD numbers x 0) n from r) ⌝ }
+fn next(among: u16, numbers: &[u32; State::MOST], n: usize, from: usize, scan: Scan) -> Scan
+    requires { ⌜ (n ≤ 16) × (from < n) × (scan .left ≡ 0 → ⊥) × (Scanned (has among) (λ x. getD (now numbers) x 0) n from scan) ⌝ }
+    ensures { λ r. ⌜ (r .left < scan .left) × (Scanned (has among) (λ x. getD (now (numbers .entry)) x 0) n from r) ⌝ }
 {
     let gap = u32::trailing_zeros(scan.left);
     let k = scan.passed + gap as usize;
@@ -103,7 +103,7 @@ pub(crate) fn choose(among: u16, numbers: [u32; State::MOST], n: usize, from: us
         best: from,
     };
     while scan.left != 0 {
-        scan = next(among, numbers, n, from, scan);
+        scan = next(among, &numbers, n, from, scan);
     }
     scan.best
 }
