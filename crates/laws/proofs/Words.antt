@@ -1,12 +1,15 @@
 -- Words as sets, over every width w: what the code's shifts and masks come to, and which digits they leave.
 use mathlib.Core.Path.{_≡_, refl, sym, ap, _∙_}
-use Prim.Native.Nat.{ℕ, zero, suc, _+_, _-_, _*_, _/_, _%_, _^_, _≤_, _<_}
-use native.Mathlib.Nat.{le-trans, mod-le, mul-le-mul-right, div-mul-le-self, one-mul, div-one, pow-suc, mul-comm, div-div-eq-div-mul, lt-of-lt-of-le, div-eq-of-lt, le-of-suc-le-suc, not-suc-le-zero}
+use mathlib.Core.Bool.{false, _&&_}
+use Prim.Native.Nat.{ℕ, zero, suc, min, _+_, _-_, _*_, _/_, _%_, _^_, _≤_, _<_}
+use native.Mathlib.Nat.{mod-lt, le-trans, mod-le, mul-le-mul-right, div-mul-le-self, one-mul, div-one, pow-suc, mul-comm, div-div-eq-div-mul, lt-of-lt-of-le, div-eq-of-lt, le-of-suc-le-suc, not-suc-le-zero}
 use native.Mathlib.Omega.{arith}
-use lib.Pow.{shl-exact, pow-add, pow-mono, shr-shr, mod-mod-pow, field, high, low}
-use lib.Bits.{bitAnd, bitOr, and-high}
+use borrow.Author.Tests.{ne-eqb}
+use lib.Dec.{eqb}
+use lib.Pow.{shl-exact, pow-pos, pow-add, pow-mono, shr-shr, mod-mod-pow, field, high, low}
+use lib.Bits.{bitAnd, bitOr, and-high, and-shr, and-step, and-le-l, or-add-and}
 use lib.Count.{trailingZeros, under}
-use Rattle.laws.specs.Sets.{digit, with, without}
+use Rattle.laws.specs.Sets.{digit, has, with, without}
 
 -- 1 moved to place k is not cut off
 pub single : (w k : ℕ) → k < w → (1 * 2 ^ k) % 2 ^ w ≡ 2 ^ k
@@ -23,6 +26,23 @@ pub and-clears : (w s k : ℕ) → k < w → s - bitAnd s ((1 * 2 ^ k) % 2 ^ w) 
 and-clears w s k l = ap (λ x. s - x) (ap (bitAnd s) (single w k l) ∙ and-single s k)
 
 -- ---- which digits are left
+
+digit-and : (a b k : ℕ) → digit (bitAnd a b) k ≡ min (digit a k) (digit b k)
+digit-and a b k = rw (and-shr, and-step) (omega arith)
+
+min-bits : (x y : ℕ) → x < 2 → y < 2 → eqb (min x y) 1 ≡ (eqb x 1 && eqb y 1)
+min-bits zero y h l = let e : min 0 y ≡ 0 = omega arith in rw e
+min-bits (suc zero) zero h l = refl
+min-bits (suc zero) (suc zero) h l = refl
+min-bits (suc zero) (suc (suc y)) h l = absurd (omega arith)
+min-bits (suc (suc x)) y h l = absurd (omega arith)
+
+pub has-and : (a b k : ℕ) → has (bitAnd a b) k ≡ (has a k && has b k)
+has-and a b k = ap (λ d. eqb d 1) (digit-and a b k) ∙ min-bits _ _ (mod-lt (a / 2 ^ k) (omega arith)) (mod-lt (b / 2 ^ k) (omega arith))
+
+-- a set with k is not empty
+pub with-some : (s k : ℕ) → eqb (with s k) 0 ≡ false
+with-some s k = ne-eqb (with s k) 0 (λ e. omega (arith, or-add-and s (2 ^ k), and-le-l s (2 ^ k), pow-pos k))
 
 digit-zero : (s : ℕ) → digit s 0 ≡ s % 2
 digit-zero s = ap (λ x. x % 2) (div-one s)
