@@ -4,25 +4,25 @@ use mathlib.Core.Logic.{_⊎_, inl, inr, ⊎-elim}
 use mathlib.Core.Bool.{Bool, true, false, not, _&&_, _||_, cond, or-true, true≢false}
 use mathlib.Core.List.{List}
 use Prim.Native.Nat.{ℕ, zero, suc, _+_, _-_, _*_, _/_, _%_, _^_, _≤_, _<_}
-use native.Mathlib.Nat.{div-div-eq-div-mul, div-eq-of-lt, div-mul-le-self, mod-le, mod-lt, mul-assoc, mul-comm, mul-le-mul-right, pow-suc, zero-div, le-trans}
+use native.Mathlib.Nat.{div-mul-le-self, mod-le, mod-lt, mul-assoc, mul-le-mul-right, pow-suc, zero-div, le-trans}
 use native.Mathlib.Decide.{decLt, ℕ-discrete}
 use native.Mathlib.Omega.{arith}
 use lib.Bits.{bitOr, or-shr, or-mod}
 use lib.Dec.{eqb, eqb·zero-suc, eqb·suc-zero, eqb·suc-suc}
 use lib.ListN.{length, getD, set, replicate, List·getD-eq-default, length-set, length-replicate, getD-replicate}
-use lib.Pow.{field, mod-mod-pow, pow-mono, pow-pos}
+use lib.Pow.{pow-pos}
 use lib.Seq.{getD-set-same, getD-set-other, set-out}
 use borrow.Author.Tests.{eqb-true, eq-eqb}
 use Rattle.laws.specs.Sets.{digit, has, with, without, gathered, asks, tabled}
 use Rattle.laws.proofs.Tests.{either, same, arms}
 use Rattle.laws.proofs.Rows.{no-bits}
 use Rattle.laws.proofs.Steps.{kept}
-use Rattle.laws.proofs.Words.{digit-le}
+use Rattle.laws.proofs.Words.{digit-suc, digit-past, digit-below}
 
 -- ---- the digits of a word
 
-digit-suc : (s k : ℕ) → digit s (suc k) ≡ digit (s / 2) k
-digit-suc s k = rw (pow-suc, mul-comm, ← div-div-eq-div-mul)
+digit-le : (s k : ℕ) → digit s k * 2 ^ k ≤ s
+digit-le s k = le-trans (mul-le-mul-right (2 ^ k) (mod-le (s / 2 ^ k) 2)) (div-mul-le-self s (2 ^ k))
 
 digit-none : (k : ℕ) → digit 0 k ≡ 0
 digit-none k = ap (λ x. x % 2) (zero-div (2 ^ k))
@@ -73,9 +73,7 @@ has-without s k j = ap (λ d. eqb d 1) (digit-without s k j) ∙ go (eqb j k)
 
 -- s % 2 ^ n is what s has below n
 pub has-below : (s n j : ℕ) → j < n → has (s % 2 ^ n) j ≡ has s j
-has-below s n j h =
-    let e : n ≡ n - suc j + 1 + j = omega arith in
-    ap (λ d. eqb (d % 2) 1) (ap (λ x. s % 2 ^ x / 2 ^ j) e ∙ field s (n - suc j + 1) j) ∙ ap (λ d. eqb d 1) (mod-mod-pow (s / 2 ^ j) (n - suc j) 1)
+has-below s n j h = ap (λ d. eqb d 1) (digit-below s n j h)
 
 pub below-has : (s n j : ℕ) → has (s % 2 ^ n) j ≡ true → (j < n) × (has s j ≡ true)
 below-has s n j e = go (decLt j n)
@@ -83,9 +81,7 @@ below-has s n j e = go (decLt j n)
     go : Dec (j < n) → (j < n) × (has s j ≡ true)
     go (yes h) = (h, sym (has-below s n j h) ∙ e)
     go (no h) =
-        let le : n ≤ j = omega arith in
-        let small : s % 2 ^ n < 2 ^ j = omega (arith, mod-lt s (pow-pos n), pow-mono le) in
-        absurd (true≢false (sym e ∙ ap (λ x. eqb (x % 2) 1) (div-eq-of-lt small)))
+        absurd (true≢false (sym e ∙ ap (λ d. eqb d 1) (digit-past (s % 2 ^ n) n j (mod-lt s (pow-pos n)) (omega arith))))
 
 module _ (p : ℕ → Bool) where
   pub gathered-has : (n j : ℕ) → has (gathered p n) j ≡ true → (j < n) × (p j ≡ true)

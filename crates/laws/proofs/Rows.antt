@@ -24,7 +24,7 @@ module _ (m : ℕ) (f : ℕ → ℕ) where
   unfolding steps
   row-tabled zero k h l = absurd (not-suc-le-zero h)
   row-tabled (suc n) k h l = ⊎-elim
-      (λ e. rw e (getD-set-same (tabled m f n) n (f n) 0 (omega (arith, length-tabled n, e))))
+      (λ e. rw e (getD-set-same (tabled m f n) n (f n) 0 (omega (arith, length-tabled n))))
       (λ g. getD-set-other (tabled m f n) n k (f n) 0 (λ e. omega arith) ∙ row-tabled n k g l)
       (eq-or-lt-of-le (le-of-suc-le-suc h))
 
@@ -51,12 +51,6 @@ each-row f rows m k p e h g = done _ _ m k e h g ∙ ext-getD 0 _ _ (length-tabl
   where
     same : (i : ℕ) → i < length (tabled m (λ i. f (getD rows i 0)) m) → getD (tabled m (λ i. f (getD rows i 0)) m) i 0 ≡ getD (map f rows) i 0
     same i l = row-tabled m _ m i (rw length-tabled at l) (rw length-tabled at l) ∙ sym (row-map f rows i (omega (arith, length-tabled m (λ i. f (getD rows i 0)) m)))
-
--- tables of equal rows
-pub same-rows : (m n : ℕ) (f g : ℕ → ℕ) → ((k : ℕ) → k < n → f k ≡ g k) → tabled m f n ≡ tabled m g n
-unfolding steps
-same-rows m zero f g h = refl
-same-rows m (suc n) f g h = rw (same-rows m n f g (λ k l. h k (omega arith)), h n (omega arith))
 
 -- the empty table
 pub no-bits : (m k : ℕ) → _≡_ {A = ℕ} (getD (replicate m 0) k 0) 0

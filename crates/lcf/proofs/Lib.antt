@@ -2,3 +2,4 @@ pub mod Cases
 pub mod Choices
 pub mod Rounds
 pub mod Slots
+pub mod Hearing

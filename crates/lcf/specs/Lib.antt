@@ -1,9 +1,11 @@
 pub mod Ready
 pub mod Heard
 pub mod Choice
+pub mod Scan
 pub mod Join
 pub mod Planned
 pub mod Central
 pub mod Distributed
+pub mod Offers
 pub mod Advance
 pub mod Slot

@@ -1,4 +1,5 @@
 // The choice of rules 3, 5 and 6, and where its rotation starts.
+use crate::sets::clip;
 use crate::sets::holds;
 use crate::state::Initiator;
 use crate::state::State;
@@ -9,6 +10,7 @@ ghost use lib.ListN.{getD};
 ghost use Rattle.laws.specs.Sets.{has};
 ghost use Rattle.lcf.specs.Ready.{Ready};
 ghost use Rattle.lcf.specs.Choice.{place, turned, better, choice};
+ghost use Rattle.lcf.specs.Scan.{Turned, Scanned};
 
 // No division: x is below twice n.
 pub(crate) fn wrapped(x: usize, n: usize) -> usize
@@ -44,14 +46,14 @@ pub(crate) fn first_target(state: State, i: Initiator) -> Target
 
 fn contend(
     among: u16,
-    numbers: [u32; State::MOST],
+    numbers: &[u32; State::MOST],
     n: usize,
     from: usize,
     k: usize,
     best: usize,
 ) -> usize
     requires { ⌜ (n ≤ 16) × (from < n) × (k < n) × (best < n) ⌝ }
-    ensures { λ r. ⌜ (r ≡ better (has among) (λ x. getD numbers x 0) (place n from k) best) × (r < n) ⌝ }
+    ensures { λ r. ⌜ (r ≡ better (has among) (λ x. getD (now (numbers .entry)) x 0) (place n from k) best) × (r < n) ⌝ }
 {
     let x = wrapped(from + k, n);
     if holds(among, x) & (!holds(among, best) | (numbers[x] < numbers[best])) {
@@ -61,16 +63,47 @@ fn contend(
     }
 }
 
+// The members still to come, a bit for each place of the rotation after those passed, and the best of those passed.
+pub struct Scan {
+    pub left: u32,
+    pub passed: usize,
+    pub best: usize,
+}
+
+fn rotated(among: u16, n: usize, from: usize) -> u32
+    requires { ⌜ (n ≤ 16) × (from < n) ⌝ }
+    ensures { λ r. ⌜ Turned (has among) n from 0 r ⌝ }
+{
+    let s = clip(among, n);
+    let low = clip(s, from);
+    ((low as u32) << (n - from)) + ((s as u32) >> from)
+}
+
+// To the next member at once: who does not ask costs no time.
+fn next(among: u16, numbers: &[u32; State::MOST], n: usize, from: usize, scan: Scan) -> Scan
+    requires { ⌜ (n ≤ 16) × (from < n) × (scan .left ≡ 0 → ⊥) × (Scanned (has among) (λ x. getD (now numbers) x 0) n from scan) ⌝ }
+    ensures { λ r. ⌜ (r .left < scan .left) × (Scanned (has among) (λ x. getD (now (numbers .entry)) x 0) n from r) ⌝ }
+{
+    let gap = u32::trailing_zeros(scan.left);
+    let k = scan.passed + gap as usize;
+    Scan {
+        left: (scan.left >> gap) >> 1,
+        passed: k + 1,
+        best: contend(among, numbers, n, from, k, scan.best),
+    }
+}
+
 pub(crate) fn choose(among: u16, numbers: [u32; State::MOST], n: usize, from: usize) -> usize
     requires { ⌜ (n ≤ 16) × (from < n) ⌝ }
     ensures { λ r. ⌜ (r ≡ choice (has among) (λ x. getD numbers x 0) n from) × (r < n) ⌝ }
 {
-    if among == 0 {
-        return from;
+    let mut scan = Scan {
+        left: rotated(among, n, from),
+        passed: 0,
+        best: from,
+    };
+    while scan.left != 0 {
+        scan = next(among, &numbers, n, from, scan);
     }
-    let mut best = from;
-    for k in 0..n {
-        best = contend(among, numbers, n, from, k, best);
-    }
-    best
+    scan.best
 }

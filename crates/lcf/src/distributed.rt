@@ -5,8 +5,8 @@ use crate::choice::first_target;
 use crate::join::join;
 use crate::join::join_live;
 use crate::sets::column;
+use crate::sets::gather;
 use crate::sets::holds;
-use crate::sets::put;
 use crate::sets::sizes;
 use crate::state::Initiator;
 use crate::state::State;
@@ -15,24 +15,16 @@ use crate::work::Round;
 use crate::work::Run;
 use crate::work::Work;
 ghost use mathlib.Core.Path.{_≡_};
-ghost use mathlib.Core.Bool.{_&&_, cond};
 ghost use Prim.Native.Nat.{_+_, _<_, _≤_};
-ghost use lib.Dec.{eqb};
-ghost use lib.ListN.{getD};
-ghost use Rattle.laws.specs.Sets.{has, with, sizes};
 ghost use Rattle.lcf.specs.Ready.{Ready};
-ghost use Rattle.lcf.specs.Choice.{turned, choice};
 ghost use Rattle.lcf.specs.Distributed.{
   askers,
-  grants,
-  offers,
-  accepted,
-  answer,
   round,
   anyLive,
   oneMore,
   distributed,
 };
+ghost use Rattle.lcf.specs.Offers.{granted, Offers, accept};
 
 fn askers(state: State, live: [u16; State::MOST]) -> [u16; State::MOST]
     requires { ⌜ Ready 16 state ⌝ }
@@ -46,73 +38,42 @@ fn askers(state: State, live: [u16; State::MOST]) -> [u16; State::MOST]
     asked
 }
 
-fn grant(state: State, asking: u16, counts: [u32; State::MOST], t: Target) -> usize
+fn grant(state: State, asking: u16, counts: [u32; State::MOST], t: Target) -> Initiator
     requires { ⌜ (Ready 16 state) × (t .0 < state .ports) ⌝ }
-    ensures { λ r. ⌜ r ≡ choice (has asking) (λ i. getD counts i 0) (state .ports) (turned (state .ports) (state .initiator .0) (t .0) (state .target .0)) ⌝ }
+    ensures { λ r. ⌜ (r .0 ≡ granted state asking counts (t .0)) × (r .0 < state .ports) ⌝ }
 {
     let from = first_initiator(state, t);
-    choose(asking, counts, state.ports, from.0)
+    Initiator(choose(asking, counts, state.ports, from.0))
 }
 
-fn grants(state: State, live: [u16; State::MOST], asked: [u16; State::MOST]) -> [usize; State::MOST]
+fn offers(state: State, live: [u16; State::MOST], asked: [u16; State::MOST]) -> [u16; State::MOST]
     requires { ⌜ (Ready 16 state) × (asked ≡ askers state live) ⌝ }
-    ensures { λ r. ⌜ r ≡ grants state live ⌝ }
+    ensures { λ r. ⌜ Offers state live r ⌝ }
 {
     let n = state.ports;
     let counts = sizes(live);
-    let mut granted = [0; State::MOST];
+    let mut offered = State::empty_table();
     for t in 0..n {
-        granted[t] = grant(state, asked[t], counts, Target(t));
+        let i = grant(state, asked[t], counts, Target(t));
+        let at = i.0;
+        offered[at] = gather(offered[at], live[at], t, Target(t));
     }
-    granted
+    offered
 }
 
-fn offer(s: u16, row: u16, granted: usize, i: Initiator, t: Target) -> u16
-    requires { ⌜ t .0 < 16 ⌝ }
-    ensures { λ r. ⌜ r ≡ cond (has row (t .0) && eqb granted (i .0)) (with s (t .0)) s ⌝ }
-{
-    if holds(row, t.0) & (granted == i.0) {
-        put(s, t.0)
-    } else {
-        s
-    }
-}
-
-fn offers(
+fn accept(
     state: State,
-    live: [u16; State::MOST],
-    granted: [usize; State::MOST],
-    i: Initiator,
-) -> u16
-    requires { ⌜ (Ready 16 state) × (i .0 < state .ports) ⌝ }
-    ensures { λ r. ⌜ r ≡ offers state live granted (i .0) ⌝ }
-{
-    let n = state.ports;
-    let at = i.0;
-    let row = live[at];
-    let mut s = 0;
-    for t in 0..n {
-        s = offer(s, row, granted[t], i, Target(t));
-    }
-    s
-}
-
-// The numbers of askers are those of the round's start.
-fn answer(
-    state: State,
-    live: [u16; State::MOST],
     counts: [u32; State::MOST],
-    granted: [usize; State::MOST],
+    offered: u16,
     i: Initiator,
     current: Round,
 ) -> Round
-    requires { ⌜ (Ready 16 state) × (i .0 < state .ports) × (counts ≡ sizes (askers state live)) ⌝ }
-    ensures { λ r. ⌜ r ≡ answer state live (askers state live) granted (i .0) current ⌝ }
+    requires { ⌜ (Ready 16 state) × (i .0 < state .ports) ⌝ }
+    ensures { λ r. ⌜ r ≡ accept state counts offered (i .0) current ⌝ }
 {
-    let offer = offers(state, live, granted, i);
     let from = first_target(state, i);
-    let t = Target(choose(offer, counts, state.ports, from.0));
-    if holds(offer, t.0) {
+    let t = Target(choose(offered, counts, state.ports, from.0));
+    if holds(offered, t.0) {
         let work = current.work;
         Round {
             work: join(work, i, t),
@@ -123,6 +84,7 @@ fn answer(
     }
 }
 
+// All goes by the requests as the round began.
 fn round(state: State, work: Work) -> Round
     requires { ⌜ Ready 16 state ⌝ }
     ensures { λ r. ⌜ r ≡ round state work ⌝ }
@@ -130,14 +92,14 @@ fn round(state: State, work: Work) -> Round
     let n = state.ports;
     let live = work.live;
     let asked = askers(state, live);
-    let granted = grants(state, live, asked);
+    let offered = offers(state, live, asked);
     let counts = sizes(asked);
     let mut current = Round {
         work,
         joined: false,
     };
     for i in 0..n {
-        current = answer(state, live, counts, granted, Initiator(i), current);
+        current = accept(state, counts, offered[i], Initiator(i), current);
     }
     current
 }

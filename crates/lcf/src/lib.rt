@@ -2,6 +2,7 @@
 mod central;
 mod choice;
 mod distributed;
+mod heard;
 mod join;
 mod planned;
 mod sets;
@@ -9,6 +10,8 @@ mod slot;
 mod state;
 mod work;
 
+pub use heard::Tables;
+pub use heard::counted;
 pub use slot::due_number;
 pub use slot::slot_on_tables;
 pub use state::Fresh;

@@ -29,7 +29,7 @@ pub(crate) fn clear(s: u16, k: usize) -> u16
 }
 
 // The row's bits below n.
-fn clip(row: u16, n: usize) -> u16
+pub(crate) fn clip(row: u16, n: usize) -> u16
     requires { ⌜ n ≤ 16 ⌝ }
     ensures { λ r. ⌜ r ≡ row % 2 ^ n ⌝ }
 {
@@ -47,7 +47,8 @@ pub(crate) fn within(n: usize, rows: [u16; State::MOST]) -> [u16; State::MOST]
     table
 }
 
-fn gather(s: u16, row: u16, i: usize, t: Target) -> u16
+// s with i, if the row has t.
+pub(crate) fn gather(s: u16, row: u16, i: usize, t: Target) -> u16
     requires { ⌜ (i < 16) × (t .0 < 16) ⌝ }
     ensures { λ r. ⌜ r ≡ cond (has row (t .0)) (with s i) s ⌝ }
 {

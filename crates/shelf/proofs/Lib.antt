@@ -4,4 +4,3 @@ pub mod Lowest
 pub mod Refusals
 pub mod Stepping
 pub mod Unique
-pub mod Voting

@@ -1,29 +1,16 @@
 -- The three ends of a slot: declined before it is run, run and declined with 12, and served.
-use mathlib.Core.Path.{_≡_, refl, ap₂, _∙_}
+use mathlib.Core.Path.{_≡_, refl}
 use mathlib.Core.List.{List}
 use Prim.Native.Nat.{ℕ}
 use borrow.Author.Tests.{eq-eqb, ne-eqb}
-use Rattle.lcf.specs.Heard.{counted}
-use Rattle.lcf.specs.Slot.{declined, slotOnTables}
+use Rattle.lcf.specs.Slot.{declined}
 use Rattle.lcf.specs.declared.state.State.{State}
 use Rattle.lcf.specs.declared.state.Mode.{Mode}
 use Rattle.lcf.specs.declared.work.Stepped.{Stepped}
 use Rattle.shelf.specs.Hosts.{hostsOf}
 use Rattle.shelf.specs.Grants.{granted}
-use Rattle.shelf.specs.Voting.{passed, admitted}
-use Rattle.shelf.proofs.Voting.{admitted-counted}
 use Rattle.shelf.specs.Step.{refusal, slotOnHosts, stepped, output}
 use Rattle.shelf.specs.declared.hosts.Hosts.{Hosts}
-
--- what counts of req and pre goes to the slot on tables
-pub on-hosts : (m : ℕ) (st : State) (slot : ℕ) (mode : Mode) (hosts : Hosts) (set : ℕ) (asked claimed : List ℕ) (r : Stepped) → set ≡ passed (hosts .heard) (hosts .ben) (st .ports)
-    → asked ≡ admitted set (hosts .req) (st .ports) → claimed ≡ admitted set (hosts .pre) (st .ports)
-    → r ≡ slotOnTables m st slot mode asked claimed → r ≡ slotOnHosts m st slot mode hosts
-unfolding slotOnHosts
-on-hosts m st slot mode hosts set asked claimed r is a c e = e ∙ ap₂ (slotOnTables m st slot mode) (a ∙ counts (hosts .req)) (c ∙ counts (hosts .pre))
-  where
-    counts : (rows : List ℕ) → admitted set rows (st .ports) ≡ counted (st .ports) (hosts .heard) (hosts .ben) rows
-    counts rows = rw is (admitted-counted (st .ports) (hosts .heard) (hosts .ben) rows)
 
 module _ (m : ℕ) (st : State) (slot : ℕ) (mode : Mode) (block : List ℕ) (link : ℕ) (out : List ℕ) (number : ℕ) (is : number ≡ refusal m st slot mode block out) where
   pub refused : (r : Stepped) → (number ≡ 0 → ⊥) → r ≡ declined m st number → (r ≡ stepped m st slot mode block out) × (out ≡ output m st slot mode block link out)

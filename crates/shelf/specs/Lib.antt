@@ -1,4 +1,3 @@
 pub mod Grants
 pub mod Hosts
 pub mod Step
-pub mod Voting

@@ -1,14 +1,11 @@
 // One slot, from bytes to bytes, by value.
 ghost use mathlib.Core.Path.{_≡_};
-ghost use Prim.Native.Nat.{_≤_};
 ghost use Rattle.frames.specs.Part.{mostPorts};
 ghost use Rattle.lcf.specs.Slot.{declined};
 ghost use Rattle.shelf.specs.Step.{refusal, slotOnHosts, stepped, output};
 use crate::grants::write_grants;
 use crate::hosts::Hosts;
 use crate::hosts::hear;
-use crate::votes::admitted;
-use crate::votes::passed;
 use frames::Config;
 use frames::Grant;
 use lcf::Answer;
@@ -46,15 +43,14 @@ fn declined(state: State, number: u8) -> Stepped
 }
 
 fn slot_on_hosts(state: State, slot: u32, mode: Mode, hosts: Hosts) -> Stepped
-    requires { ⌜ state .ports ≤ mostPorts ⌝ }
     ensures { λ r. ⌜ r ≡ slotOnHosts mostPorts state slot mode hosts ⌝ }
 {
     let ben = hosts.ben;
     let req = hosts.req;
     let pre = hosts.pre;
-    let present = passed(state.ports, hosts.heard, ben);
-    let asked = admitted(state.ports, present, req);
-    let claimed = admitted(state.ports, present, pre);
+    let counted = lcf::counted(state.ports, hosts.heard, ben, req, pre);
+    let asked = counted.req;
+    let claimed = counted.pre;
     lcf::slot_on_tables(state, slot, mode, asked, claimed)
 }
 

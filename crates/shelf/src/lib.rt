@@ -2,6 +2,5 @@
 mod by_value;
 mod grants;
 mod hosts;
-mod votes;
 
 pub use by_value::step;

@@ -7,5 +7,5 @@ contend-spec =
     tie.close
     (tie.spec (λ c. search needs) (λ c κs. search needs) (λ c κs. search needs) (λ c κs. search needs) (λ c. search needs)
     (λ c. search needs) (λ c. search needs) (λ c. search needs)
-    (λ c. (rw (← c .before .before .before .wrapped .ensures .0, ← c .before .before .holds .ensures, ← c .before .holds2 .ensures, c .if1 .taken), search needs))
-    (λ c. (rw (← c .before .before .before .wrapped .ensures .0, ← c .before .before .holds .ensures, ← c .before .holds2 .ensures, c .if1 .left), search needs)))
+    (λ c. (rw (← c .before .before .before .before .before .wrapped .ensures .0, ← c .before .before .before .before .holds .ensures, ← c .before .before .before .holds2 .ensures, c .if1 .taken), search needs))
+    (λ c. (rw (← c .before .before .before .before .before .wrapped .ensures .0, ← c .before .before .before .before .holds .ensures, ← c .before .before .before .holds2 .ensures, c .if1 .left), search needs)))

@@ -1,23 +1,26 @@
+use borrow.Author.Needs.{needs}
 use Rattle.laws.proofs.Loops.{loop}
 use mathlib.Core.Path.{_≡_}
 use Prim.Native.Nat.{_≤_, _-_}
-use mathlib.Core.Bool.{_&&_}
-use lib.Dec.{eqb}
-use lib.ListN.{getD}
-use Rattle.laws.specs.Sets.{has, gathered}
-use Rattle.lcf.specs.Distributed.{offers}
+use Rattle.laws.proofs.Loops.{again}
+use Rattle.lcf.specs.Offers.{offer, offering}
+use Rattle.lcf.proofs.Rounds.{all-offered}
 use Rattle.lcf.proofs.distributed.offers.Statement.{statement}
 use Rattle.lcf.proofs.distributed.offers.Tie as tie
 
 abbrev Inv-loop : tie.InvT-loop
-Inv-loop i granted n at row s₀ t₀ s t = (t ≤ n) × (s ≡ gathered (λ k. has row k && eqb (getD granted k 0) (i .0)) t)
+Inv-loop state live asked n counts offered₀ t₀ offered t = (t ≤ n) × (offered ≡ offering state live asked counts offered₀ t)
 
 abbrev μ-loop : tie.MeasureT-loop
-μ-loop i granted n at row s₀ t₀ s t = n - t
+μ-loop state live asked n counts offered₀ t₀ offered t = n - t
 
 pub offers-spec : {M : Type 1} → statement M
-unfolding offers
+unfolding offer
 offers-spec =
     tie.close
-    (tie.spec Inv-loop μ-loop (λ c. search loop) (λ c. search loop) (λ c. search loop) (λ c. search loop) (λ c. search loop)
-    (λ c κs. search loop) (λ c. search loop) (λ c. search loop) (λ c. search loop) (λ c. search loop))
+    (tie.spec Inv-loop μ-loop (λ c κs. search loop) (λ c κs. search loop) (λ c. search loop) (λ c. search loop)
+    (λ c. search loop) (λ c κs. search loop) (λ c. search loop) (λ c. search loop) (λ c. search loop)
+    (λ c. search loop) (λ c κs. search loop) (λ c. search loop) (λ c. search loop) (λ c. search loop)
+    (λ c. search loop)
+    (λ c. (search needs, again _ _ _ (c .before .before .before .loop .inv .1) (rw (← c .before .grant .ensures .0, ← c .gather .ensures))))
+    (λ c. all-offered _ _ (search needs) 16 _ _ _ _ (search needs) (c .before .before .before .before .pre .1) (c .before .before .before .sizes .ensures) (c .before .before .empty-table .ensures) (c .before .loop .inv .1) (search needs) (search needs)))

@@ -25,8 +25,7 @@ step-spec =
     tie.close
     (tie.spec (λ c κs. search needs) (λ c κs. search needs) (λ c. search needs) returns
     (λ c κs. taken 16 _ _ _ _ _ (sym (c .before .refusal .ensures) ∙ c .if1 .left) .ports)
-    (λ c κs. taken 16 _ _ _ _ _ (sym (c .before .before .refusal .ensures) ∙ c .before .if1 .left) .ports)
-    (λ c. search needs) returns-2
+    (λ c κs. search needs) (λ c. search needs) returns-2
     (λ c κs.
     let heard = c .before .before .before .before .before .before in
     let t = taken 16 _ _ _ _ _ (sym (heard .before .before .refusal .ensures) ∙ heard .before .if1 .left) in

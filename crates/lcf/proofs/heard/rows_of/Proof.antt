@@ -1,20 +1,20 @@
 use Rattle.laws.proofs.Rows.{rows}
 use mathlib.Core.Path.{_≡_}
-use Prim.Native.Nat.{_≤_, _-_}
 use mathlib.Core.Bool.{cond}
-use lib.ListN.{getD, length}
+use Prim.Native.Nat.{_≤_, _-_}
+use lib.ListN.{getD}
 use Rattle.laws.specs.Sets.{has, tabled}
-use Rattle.shelf.proofs.votes.admitted.Statement.{statement}
-use Rattle.shelf.proofs.votes.admitted.Tie as tie
+use Rattle.lcf.proofs.heard.rows_of.Statement.{statement}
+use Rattle.lcf.proofs.heard.rows_of.Tie as tie
 
 abbrev Inv-loop : tie.InvT-loop
-Inv-loop ports set rows table₀ i₀ table i = (i ≤ ports) × (table ≡ tabled 16 (λ k. cond (has set k) (getD rows k 0) 0) i)
+Inv-loop n present rows table₀ i₀ table i = (i ≤ n) × (table ≡ tabled 16 (λ k. cond (has present k) (getD rows k 0) 0) i)
 
 abbrev μ-loop : tie.MeasureT-loop
-μ-loop ports set rows table₀ i₀ table i = ports - i
+μ-loop n present rows table₀ i₀ table i = n - i
 
-pub admitted-spec : {M : Type 1} → statement M
-admitted-spec =
+pub rows-of-spec : {M : Type 1} → statement M
+rows-of-spec =
     tie.close
     (tie.spec Inv-loop μ-loop (λ c κs. search rows) (λ c. search rows) (λ c. search rows) (λ c. search rows)
     (λ c κs. search rows) (λ c. search rows) (λ c. search rows) (λ c. search rows) (λ c. search rows)

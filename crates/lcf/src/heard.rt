@@ -1,0 +1,81 @@
+// Rules 1 and 2: what of the hosts' fields counts.
+use crate::sets::holds;
+use crate::state::State;
+ghost use mathlib.Core.Path.{_≡_};
+ghost use mathlib.Core.Bool.{cond};
+ghost use Prim.Native.Nat.{min, _<_, _≤_};
+ghost use lib.Bits.{bitAnd};
+ghost use lib.ListN.{getD};
+ghost use Rattle.laws.specs.Sets.{has, tabled};
+ghost use Rattle.lcf.specs.Heard.{Present, tables};
+
+// The requests and the planned claims of all hosts.
+pub struct Tables {
+    pub req: [u16; State::MOST],
+    pub pre: [u16; State::MOST],
+}
+
+fn at_most(ports: usize) -> usize
+    ensures { λ r. do ⌜ r ≡ min ports (← ⟦State::MOST⟧ .entry) ⌝ }
+{
+    if ports < State::MOST {
+        ports
+    } else {
+        State::MOST
+    }
+}
+
+// Without those whom host h disables, if it is heard.
+fn enabled(s: u16, heard: u16, ben: u16, h: usize) -> u16
+    requires { ⌜ h < 16 ⌝ }
+    ensures { λ r. ⌜ r ≡ cond (has heard h) (bitAnd s ben) s ⌝ }
+{
+    if holds(heard, h) { s & ben } else { s }
+}
+
+fn present(n: usize, heard: u16, ben: [u16; State::MOST]) -> u16
+    requires { ⌜ n ≤ 16 ⌝ }
+    ensures { λ r. ⌜ Present n heard ben r ⌝ }
+{
+    let mut s = heard;
+    for h in 0..n {
+        s = enabled(s, heard, ben[h], h);
+    }
+    s
+}
+
+fn row_of(present: u16, row: u16, i: usize) -> u16
+    requires { ⌜ i < 16 ⌝ }
+    ensures { λ r. ⌜ r ≡ cond (has present i) row 0 ⌝ }
+{
+    if holds(present, i) { row } else { 0 }
+}
+
+fn rows_of(n: usize, present: u16, rows: [u16; State::MOST]) -> [u16; State::MOST]
+    requires { ⌜ n ≤ 16 ⌝ }
+    ensures { λ r. ⌜ r ≡ tabled 16 (λ i. cond (has present i) (getD rows i 0) 0) n ⌝ }
+{
+    let mut table = State::empty_table();
+    for i in 0..n {
+        table[i] = row_of(present, rows[i], i);
+    }
+    table
+}
+
+// Both tables as they count: empty for a host that is unheard or disabled.
+pub fn counted(
+    ports: usize,
+    heard: u16,
+    ben: [u16; State::MOST],
+    req: [u16; State::MOST],
+    pre: [u16; State::MOST],
+) -> Tables
+    ensures { λ r. ⌜ r ≡ tables ports heard ben req pre ⌝ }
+{
+    let n = at_most(ports);
+    let present = present(n, heard, ben);
+    Tables {
+        req: rows_of(n, present, req),
+        pre: rows_of(n, present, pre),
+    }
+}
