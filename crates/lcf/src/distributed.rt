@@ -104,7 +104,7 @@ fn round(state: State, work: Work) -> Round
     current
 }
 
-fn any_live(live: [u16; State::MOST], n: usize) -> bool
+pub(crate) fn any_live(live: [u16; State::MOST], n: usize) -> bool
     requires { ⌜ n ≤ 16 ⌝ }
     ensures { λ r. ⌜ r ≡ anyLive live n ⌝ }
 {

@@ -1,6 +1,7 @@
 // Rules 3 and 4, the planned stage.
 use crate::choice::choose;
 use crate::choice::first_initiator;
+use crate::distributed::any_live;
 use crate::join::join;
 use crate::sets::column;
 use crate::sets::holds;
@@ -40,7 +41,7 @@ fn give(state: State, pre: [u16; State::MOST], t: Target, work: Work) -> Work
     }
 }
 
-pub(crate) fn planned(state: State, pre: [u16; State::MOST], work: Work) -> Work
+fn give_all(state: State, pre: [u16; State::MOST], work: Work) -> Work
     requires { ⌜ Ready 16 state ⌝ }
     ensures { λ r. ⌜ r ≡ planned state pre work ⌝ }
 {
@@ -50,4 +51,16 @@ pub(crate) fn planned(state: State, pre: [u16; State::MOST], work: Work) -> Work
         now = give(state, pre, Target(t), now);
     }
     now
+}
+
+// Most slots have no claim, and then no target is looked at.
+pub(crate) fn planned(state: State, pre: [u16; State::MOST], work: Work) -> Work
+    requires { ⌜ Ready 16 state ⌝ }
+    ensures { λ r. ⌜ r ≡ planned state pre work ⌝ }
+{
+    if any_live(pre, state.ports) {
+        give_all(state, pre, work)
+    } else {
+        work
+    }
 }

@@ -31,7 +31,7 @@ pub struct Fresh {
 
 impl State {
     // The greatest port count.
-    pub const MOST: usize = 16;
+    pub const MOST: usize = frames::Ports::MOST;
 
     pub fn fresh(ports: usize, due: u32) -> Fresh
         ensures { λ r. do ⌜ r ≡ fresh (← ⟦State::MOST⟧ .entry) ports due ⌝ }

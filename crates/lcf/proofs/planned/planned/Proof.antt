@@ -1,19 +1,12 @@
-use Rattle.laws.proofs.Loops.{loop}
-use mathlib.Core.Path.{_≡_}
-use Prim.Native.Nat.{_≤_, _-_}
-use Rattle.lcf.specs.Planned.{given, planned}
+use mathlib.Core.Path.{_≡_, sym, _∙_}
+use native.Mathlib.Omega.{arith}
+use borrow.Author.Needs.{needs}
+use Rattle.lcf.proofs.Unplanned.{unplanned}
 use Rattle.lcf.proofs.planned.planned.Statement.{statement}
 use Rattle.lcf.proofs.planned.planned.Tie as tie
 
-abbrev Inv-loop : tie.InvT-loop
-Inv-loop state pre n now₀ t₀ now t = (t ≤ n) × (now ≡ given state pre now₀ t)
-
-abbrev μ-loop : tie.MeasureT-loop
-μ-loop state pre n now₀ t₀ now t = n - t
-
 pub planned-spec : {M : Type 1} → statement M
-unfolding planned
 planned-spec =
     tie.close
-    (tie.spec Inv-loop μ-loop (λ c. search loop) (λ c κs. search loop) (λ c. search loop) (λ c. search loop)
-    (λ c. search loop) (λ c. search loop))
+    (tie.spec (λ c κs. search needs) (λ c κs. search needs) (λ c. c .give-all .ensures)
+    (λ c. unplanned _ _ _ (omega (arith, c .before .before .pre .target)) (sym (c .before .any-live .ensures) ∙ c .if1 .left)))

@@ -1,0 +1,50 @@
+-- Where nobody claims a target, the planned stage changes nothing.
+use mathlib.Core.Path.{_≡_, refl, sym, ap, _∙_}
+use mathlib.Core.Bool.{Bool, true, false, not, _&&_, _||_, true≢false}
+use mathlib.Core.List.{List}
+use Prim.Native.Nat.{ℕ, zero, suc, _+_, _<_, _≤_}
+use native.Mathlib.Nat.{mod-lt, zero-add}
+use native.Mathlib.Omega.{arith}
+use lib.Dec.{eqb, ltb}
+use lib.ListN.{getD}
+use borrow.Author.Tests.{eqb-true}
+use Rattle.laws.specs.Steps.{steps}
+use Rattle.laws.specs.Sets.{has, asks, column}
+use Rattle.laws.proofs.Loops.{stays}
+use Rattle.laws.proofs.Members.{has-none}
+use Rattle.laws.proofs.Steps.{upto}
+use Rattle.laws.proofs.Tests.{arms}
+use Rattle.lcf.specs.Choice.{place, turned, chosen, choice}
+use Rattle.lcf.specs.Planned.{planner, give, planned}
+use Rattle.lcf.specs.Distributed.{anyLive}
+use Rattle.lcf.specs.declared.state.State.{State}
+use Rattle.lcf.specs.declared.work.Work.{Work}
+
+neither : (a b : Bool) → (not a || b) ≡ false → (a ≡ true) × (b ≡ false)
+neither true b e = (refl, e)
+neither false b e = absurd (true≢false e)
+
+empty-rows : (rows : List ℕ) (n : ℕ) → anyLive rows n ≡ false → (i : ℕ) → i < n → getD rows i 0 ≡ 0
+unfolding steps
+empty-rows rows zero e i h = absurd (omega arith)
+empty-rows rows (suc n) e i h =
+    let (here, before) = neither (eqb (getD rows n 0) 0) (anyLive rows n) e in
+    upto (λ i. getD rows i 0 ≡ 0) n (empty-rows rows n before) (eqb-true (getD rows n 0) 0 here) i h
+
+choice-below : (p : ℕ → Bool) (f : ℕ → ℕ) (n a : ℕ) → a < n → (k : ℕ) → chosen p f n a k < n
+unfolding steps
+choice-below p f n a h zero = h
+choice-below p f n a h (suc k) =
+    arms (λ x. x < n) (p (place n a k) && (not (p (chosen p f n a k)) || ltb (f (place n a k)) (f (chosen p f n a k)))) _ _ (λ _. mod-lt (a + k) (omega arith)) (λ _. choice-below p f n a h k)
+
+module _ (st : State) (pre : List ℕ) (s : Work) (ports : 0 < st .ports) (none : anyLive pre (st .ports) ≡ false) where
+  planner-below : (t : ℕ) → planner st pre t < st .ports
+  unfolding planner choice
+  planner-below t = choice-below (has (column pre (st .ports) t)) (λ i. 0) (st .ports) (turned (st .ports) (st .initiator .0) t (st .target .0)) (mod-lt _ ports) (st .ports)
+
+  unclaimed : (t : ℕ) → asks pre (planner st pre t) t ≡ false
+  unclaimed t = ap (λ row. has row t) (empty-rows pre (st .ports) none (planner st pre t) (planner-below t)) ∙ has-none t
+
+  pub unplanned : s ≡ planned st pre s
+  unfolding planned give steps
+  unplanned = sym (stays (give st pre) s 0 (st .ports) (λ t h. rw (unclaimed t))) ∙ ap (steps (give st pre) s) (zero-add (st .ports))
