@@ -3,3 +3,4 @@ pub mod Choices
 pub mod Rounds
 pub mod Slots
 pub mod Hearing
+pub mod Unique
