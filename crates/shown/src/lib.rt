@@ -9,11 +9,18 @@ pub fn text(bytes: &[u8]) {
 }
 
 pub fn number(x: u64) {
-    io::number::print_decimal(STDOUT_FILENO, x);
+    io::print_decimal(STDOUT_FILENO, x);
 }
 
+// The slot that is due at the states below.
+pub const SLOT: u32 = 7;
+
 // A state of n ports at offsets (i, j).
-pub fn at(n: usize, i: usize, j: usize, due: u32) -> State {
+pub fn at(n: usize, i: usize, j: usize) -> State {
+    due_at(n, i, j, SLOT)
+}
+
+pub fn due_at(n: usize, i: usize, j: usize, due: u32) -> State {
     State {
         ports: n,
         initiator: Initiator(i),
