@@ -1,0 +1,75 @@
+// A slot and its answer as one line of text.
+use lcf::Initiator;
+use lcf::State;
+use lcf::Target;
+use libc::STDOUT_FILENO;
+
+pub fn text(bytes: &[u8]) {
+    io::write_all(STDOUT_FILENO, bytes);
+}
+
+pub fn number(x: u64) {
+    io::print_decimal(STDOUT_FILENO, x);
+}
+
+// The slot that is due at the states below.
+pub const SLOT: u32 = 7;
+
+// A state of n ports at offsets (i, j).
+pub fn at(n: usize, i: usize, j: usize) -> State {
+    due_at(n, i, j, SLOT)
+}
+
+pub fn due_at(n: usize, i: usize, j: usize, due: u32) -> State {
+    State {
+        ports: n,
+        initiator: Initiator(i),
+        target: Target(j),
+        due,
+    }
+}
+
+// A table whose first four rows are these.
+pub fn four(a: u16, b: u16, c: u16, d: u16) -> [u16; State::MOST] {
+    [a, b, c, d, 0, 0, 0, 0, 0, 0, 0, 0, 0, 0, 0, 0]
+}
+
+// Writes t if the set has it, and answers whether a comma comes before the next.
+fn target(set: u16, t: u16, comma: bool) -> bool {
+    if (set >> (t % 16)) % 2 == 0 {
+        return comma;
+    }
+    if comma {
+        text(b",");
+    }
+    number(t as u64);
+    true
+}
+
+// Rising, with commas between, or a hyphen for none.
+fn targets(set: u16) {
+    if set == 0 {
+        text(b"-");
+    }
+    let mut comma = false;
+    for t in 0..16u16 {
+        comma = target(set, t, comma);
+    }
+}
+
+fn initiator(i: usize, set: u16) {
+    text(b" ");
+    number(i as u64);
+    text(b":");
+    targets(set);
+}
+
+// The sets of the first n initiators, and the line's end.
+pub fn sets(n: usize, sets: [u16; State::MOST]) {
+    for i in 0..State::MOST {
+        if i < n {
+            initiator(i, sets[i]);
+        }
+    }
+    text(b"\n");
+}
