@@ -13,3 +13,7 @@ pub mod Lawful
 pub mod Keeps
 pub mod Join
 pub mod Calls
+-- on frames
+pub mod SlotCalls
+pub mod SlotRefusal
+pub mod SlotHosts

@@ -5,3 +5,8 @@ pub mod Hosts
 pub mod Origin
 pub mod Choice
 pub mod Refusal
+-- on frames
+pub mod SlotCall
+pub mod Block
+pub mod SlotShare
+pub mod Numbers
