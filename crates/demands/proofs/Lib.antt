@@ -17,3 +17,8 @@ pub mod Calls
 pub mod SlotCalls
 pub mod SlotRefusal
 pub mod SlotHosts
+pub mod SlotConnections
+pub mod Lowest
+pub mod SlotGrants
+pub mod SlotShare
+pub mod LentSlot

@@ -10,3 +10,4 @@ pub mod SlotCall
 pub mod Block
 pub mod SlotShare
 pub mod Numbers
+pub mod Told

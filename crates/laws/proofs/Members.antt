@@ -21,7 +21,7 @@ use Rattle.laws.proofs.Words.{digit-le}
 
 -- ---- the digits of a word
 
-digit-suc : (s k : ℕ) → digit s (suc k) ≡ digit (s / 2) k
+pub digit-suc : (s k : ℕ) → digit s (suc k) ≡ digit (s / 2) k
 digit-suc s k = rw (pow-suc, mul-comm, ← div-div-eq-div-mul)
 
 digit-none : (k : ℕ) → digit 0 k ≡ 0
