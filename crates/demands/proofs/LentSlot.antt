@@ -7,7 +7,7 @@ use Rattle.lcf.specs.Advance.{advance}
 use Rattle.lcf.specs.declared.state.State.{State}
 use Rattle.lcf.specs.declared.work.Answer.{Answer}
 use Rattle.card.specs.Slot.{Lent}
-use Rattle.demands.specs.SlotCall.{SlotCall, called, next, left}
+use Rattle.demands.specs.SlotCall.{SlotCall}
 use Rattle.demands.proofs.SlotRefusal.{declined-does-nothing}
 use Rattle.demands.proofs.SlotShare.{served-advances}
 

@@ -1,4 +1,12 @@
--- the demands
+-- the list
+pub mod Demands
+-- the slot call on frames
+pub mod SlotShare
+pub mod SlotConnections
+pub mod SlotGrants
+pub mod SlotRefusal
+pub mod LentSlot
+-- the call on tables
 pub mod Share
 pub mod Connections
 pub mod Refusal
@@ -8,17 +16,11 @@ pub mod Rules
 pub mod Hosts
 pub mod Stage
 -- what they rest on
+pub mod SlotCalls
+pub mod SlotHosts
+pub mod Lowest
 pub mod Turns
 pub mod Lawful
 pub mod Keeps
 pub mod Join
 pub mod Calls
--- on frames
-pub mod SlotCalls
-pub mod SlotRefusal
-pub mod SlotHosts
-pub mod SlotConnections
-pub mod Lowest
-pub mod SlotGrants
-pub mod SlotShare
-pub mod LentSlot

@@ -2,14 +2,13 @@
 use mathlib.Core.Path.{_≡_, refl, sym, ap, subst, _∙_}
 use mathlib.Core.Logic.{_⊎_, inl, inr, ⊎-elim, _↔_, Iff·rfl, Iff·symm, Iff·trans}
 use mathlib.Core.Bool.{Bool, true, false, not, _&&_, _||_, cond, or-true, true≢false}
-use mathlib.Core.List.{List}
 use Prim.Native.Nat.{ℕ, zero, suc, _*_, _^_, _≤_, _<_}
 use native.Mathlib.Decide.{ℕ-discrete}
 use native.Mathlib.Omega.{arith}
 use lib.Dec.{eqb, ltb, leb, eqb·suc-zero}
 use lib.ListN.{length}
-use borrow.Author.Tests.{eqb-true, eqb-false, eq-eqb, ne-eqb, ltb-true, lt-ltb, leb-true, le-leb, ltb-false, not-true}
-use Rattle.laws.proofs.Tests.{both, either, arms}
+use borrow.Author.Tests.{eqb-false, ne-eqb, ltb-true, lt-ltb, leb-true, le-leb, not-true}
+use Rattle.laws.proofs.Tests.{both, every, either, arms}
 use Rattle.frames.specs.Frame.{differs}
 use Rattle.frames.specs.Config.{configLen}
 use Rattle.frames.specs.Grant.{grantLen}
@@ -23,7 +22,7 @@ use Rattle.lcf.specs.declared.work.Stepped.{Stepped}
 use Rattle.shelf.specs.Step.{refusal, slotOnHosts, stepped}
 use Rattle.demands.specs.Call as tables
 use Rattle.demands.specs.SlotCall.{SlotCall, called, number, onTables}
-use Rattle.demands.specs.Numbers.{WrongLimit, Stuck, Row, given, passed, Table}
+use Rattle.demands.specs.Numbers.{WrongLimit, Row, given, passed, Table}
 use Rattle.demands.proofs.Calls.{due-exactly}
 
 -- ---- rows
@@ -45,7 +44,7 @@ tests-either a b p q = (
 )
 
 tests-both : {A B : Type 0} (a b : Bool) → Tests a A → Tests b B → Tests (a && b) (A × B)
-tests-both a b p q = (λ e. let (x, y) = both a b e in (p .0 x, q .0 y), λ (x, y). ap (λ z. z && b) (p .1 x) ∙ q .1 y)
+tests-both a b p q = (λ e. let (x, y) = both a b e in (p .0 x, q .0 y), λ (x, y). every (p .1 x) (q .1 y))
 
 tests-limit : (m : ℕ) (mode : Mode) → Tests (wrongLimit m mode) (WrongLimit m mode)
 unfolding wrongLimit

@@ -1,31 +1,24 @@
 -- The grant frames in the output of a served slot read back as what document 01 says of them.
 use mathlib.Core.Path.{_≡_, refl, sym, ap, subst, _∙_}
-use mathlib.Core.Logic.{_↔_, ⊎-elim}
-use mathlib.Core.Bool.{Bool, true, false, not, _&&_, cond, true≢false}
-use mathlib.Core.List.{List}
+use mathlib.Core.Logic.{⊎-elim}
+use mathlib.Core.Bool.{true, not}
 use Prim.Native.Nat.{ℕ, _-_, _^_, _≤_, _<_}
-use native.Mathlib.Nat.{div-lt-iff-lt-mul, pow-suc, one-mul}
-use native.Mathlib.Decide.{ℕ-discrete, decLt}
 use native.Mathlib.Omega.{arith}
-use lib.Count.{trailingZeros, under}
 use lib.Dec.{eqb}
-use lib.ListN.{getD, take, drop}
-use lib.Pow.{pow-pos, pow-mono}
+use lib.ListN.{getD}
 use borrow.Author.Tests.{eq-eqb, ne-eqb, eqb-true, eqb-false, le-leb, not-true, not-false}
-use Rattle.laws.specs.Sets.{digit, has, asks}
-use Rattle.laws.proofs.Tests.{both, refuted}
-use Rattle.laws.proofs.Members.{digit-suc, has-none}
+use Rattle.laws.specs.Sets.{asks}
+use Rattle.laws.proofs.Tests.{both, every}
 use Rattle.laws.proofs.Parts.{part-before, part-at}
 use Rattle.frames.specs.Part.{mostPorts}
-use Rattle.frames.specs.Grant.{grantLen, inForm, grantFrame, grantAnswer, readGrant}
+use Rattle.frames.specs.Grant.{grantLen, inForm, grantFrame, readGrant}
 use Rattle.frames.specs.declared.grant.Grant.{Grant}
-use Rattle.frames.specs.declared.grant.GrantRead.the-variants.{Frame}
 use Rattle.frames.proofs.GrantLaws.{length-grant, grant-reads}
 use Rattle.lcf.specs.declared.state.State.{State}
 use Rattle.shelf.specs.Hosts.{hostsOf}
 use Rattle.shelf.specs.Grants.{lowest, grantFor, granted}
 use Rattle.shelf.specs.Step.{output}
-use Rattle.shelf.proofs.Lowest.{lowest-found, lowest-in, lowest-none}
+use Rattle.shelf.proofs.Lowest.{lowest-in, lowest-none}
 use Rattle.demands.specs.Origin.{Alone}
 use Rattle.demands.specs.SlotCall.{SlotCall, number, sets, left}
 use Rattle.demands.specs.SlotShare.{grantPart, names}
@@ -33,9 +26,6 @@ use Rattle.demands.specs.Told.{Told}
 use Rattle.demands.proofs.Lowest.{small, not-empty, lowest-least, lowest-below}
 use Rattle.demands.proofs.SlotConnections.{no-target-twice, nothing-from-nowhere, whole}
 use Rattle.demands.proofs.SlotHosts.{heard-exactly}
-
-every : {a b : Bool} → a ≡ true → b ≡ true → (a && b) ≡ true
-every {a} {b} p q = rw (p, q)
 
 module _ (m : ℕ) (most : m ≤ mostPorts) (st : State) (c : SlotCall) (done : number m st c ≡ 0) where
   abbrev grant : ℕ → Grant

@@ -1,6 +1,6 @@
 -- Rules 1 to 4, said of the frames in a slot block.
 use mathlib.Core.Path.{_≡_}
-use mathlib.Core.Bool.{true, false}
+use mathlib.Core.Bool.{true}
 use mathlib.Core.List.{List}
 use Prim.Native.Nat.{ℕ, _*_, _<_}
 use lib.ListN.{take, drop}
@@ -39,10 +39,10 @@ pub record Waits (n : ℕ) (block : List ℕ) (i t : ℕ) : Type 0 where
   pub plans-nothing : (u : ℕ) → u < n → Plans block i u → ⊥
   pub unplanned : (h : ℕ) → h < n → Enabled n block h → Plans block h t → ⊥
 
--- rule 3: an enabled host that plans target t
-pub record Claimant (n : ℕ) (block : List ℕ) (t i : ℕ) : Type 0 where
-  pub enabled : Enabled n block i
-  pub plans : Plans block i t
+-- rule 3: host h is enabled and plans target t
+pub record Claimant (n : ℕ) (block : List ℕ) (t h : ℕ) : Type 0 where
+  pub enabled : Enabled n block h
+  pub plans : Plans block h t
 
 -- rule 3: target t is given to host i, its first claimant in the rotation that starts at (I + t - J) mod n
 pub record Given (st : State) (block : List ℕ) (i t : ℕ) : Type 0 where

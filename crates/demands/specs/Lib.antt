@@ -1,13 +1,14 @@
-pub mod Call
-pub mod History
-pub mod Share
-pub mod Hosts
-pub mod Origin
-pub mod Choice
-pub mod Refusal
--- on frames
+-- the slot call on frames
 pub mod SlotCall
 pub mod Block
 pub mod SlotShare
-pub mod Numbers
 pub mod Told
+pub mod Numbers
+-- the call on tables
+pub mod Call
+pub mod Share
+pub mod Origin
+pub mod Choice
+pub mod Refusal
+-- any kind of call
+pub mod History

@@ -1,10 +1,9 @@
 -- The laws of a loop, over any step.
 use borrow.Author.Needs.{needs}
 use mathlib.Core.Path.{_≡_, refl}
-use Prim.Native.Nat.{ℕ, zero, suc, _+_, _≤_, _<_}
+use Prim.Native.Nat.{ℕ, _+_, _≤_}
 use native.Mathlib.Nat.{le-antisymm}
 use native.Mathlib.Numerals.{add-one}
-use native.Mathlib.Omega.{arith}
 use Rattle.laws.specs.Steps.{steps}
 
 module _ {A : Type 0} (f : ℕ → A → A) (x : A) where
