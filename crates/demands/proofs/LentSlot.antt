@@ -9,7 +9,7 @@ use Rattle.lcf.specs.declared.work.Answer.{Answer}
 use Rattle.card.specs.Slot.{Lent}
 use Rattle.demands.specs.SlotCall.{SlotCall}
 use Rattle.demands.proofs.SlotRefusal.{declined-does-nothing}
-use Rattle.demands.proofs.SlotShare.{served-advances}
+use Rattle.demands.proofs.SlotServed.{served-advances}
 
 module _ {m : ℕ} {st : State} {c : SlotCall} {answer : Answer} {after : State} {bytes : List ℕ}
     (lent : Lent m st (c .slot) (c .mode) (c .block) (c .link) (c .out) answer after bytes) where

@@ -5,6 +5,7 @@ pub mod SlotShare
 pub mod SlotConnections
 pub mod SlotGrants
 pub mod SlotRefusal
+pub mod SlotServed
 pub mod LentSlot
 -- the call on tables
 pub mod Share
@@ -19,6 +20,7 @@ pub mod Stage
 pub mod SlotCalls
 pub mod SlotHosts
 pub mod Lowest
+pub mod Progress
 pub mod Turns
 pub mod Lawful
 pub mod Keeps

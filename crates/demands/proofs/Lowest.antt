@@ -15,7 +15,7 @@ use Rattle.shelf.proofs.Lowest.{lowest-found}
 
 -- ---- a word without bits from n on
 
-below-power : (s : ℕ) → s < 2 ^ s
+pub below-power : (s : ℕ) → s < 2 ^ s
 below-power zero = pow-pos 0
 below-power (suc s) = omega (arith, below-power s, pow-suc 2 s)
 

@@ -9,21 +9,25 @@ use lib.Dec.{eqb, ltb, leb, eqb·suc-zero}
 use lib.ListN.{length}
 use borrow.Author.Tests.{eqb-false, ne-eqb, ltb-true, lt-ltb, leb-true, le-leb, not-true}
 use Rattle.laws.proofs.Tests.{both, every, either, arms}
+use Rattle.laws.proofs.Rows.{length-tabled}
 use Rattle.frames.specs.Frame.{differs}
 use Rattle.frames.specs.Config.{configLen}
 use Rattle.frames.specs.Grant.{grantLen}
 use Rattle.lcf.specs.Advance.{advance}
+use Rattle.lcf.specs.Heard.{counted}
 use Rattle.lcf.specs.Slot.{matched, behind, wrongLimit, dueNumber, declined, ended, slotOnTables}
 use Rattle.lcf.specs.declared.state.State.{State}
 use Rattle.lcf.specs.declared.state.Mode.{Mode}
 use Rattle.lcf.specs.declared.state.Mode.the-variants.{Central, Distributed}
 use Rattle.lcf.specs.declared.work.Run.{Run}
 use Rattle.lcf.specs.declared.work.Stepped.{Stepped}
+use Rattle.shelf.specs.Hosts.{hostsOf}
 use Rattle.shelf.specs.Step.{refusal, slotOnHosts, stepped}
 use Rattle.demands.specs.Call as tables
-use Rattle.demands.specs.SlotCall.{SlotCall, called, number, onTables}
-use Rattle.demands.specs.Numbers.{WrongLimit, Row, given, passed, Table}
+use Rattle.demands.specs.SlotCall.{SlotCall, called, number, sets, onTables}
+use Rattle.demands.specs.Numbers.{WrongLimit, Stuck, Row, given, passed, Table}
 use Rattle.demands.proofs.Calls.{due-exactly}
+use Rattle.demands.proofs.SlotHosts.{Whole}
 
 -- ---- rows
 
@@ -60,7 +64,7 @@ row k true x tests rest = given (tests .0 refl) refl
 row k false x tests rest = passed (λ a. true≢false (sym (tests .1 a))) rest
 
 -- a row with another number does not apply
-pub other-number : {k : ℕ} {applies : Type 0} {below : ℕ → Type 0} {x : ℕ} → (x ≡ k → ⊥) → Row k applies below x → (applies → ⊥) × below x
+other-number : {k : ℕ} {applies : Type 0} {below : ℕ → Type 0} {x : ℕ} → (x ≡ k → ⊥) → Row k applies below x → (applies → ⊥) × below x
 other-number other (given a e) = absurd (other e)
 other-number other (passed n rest) = (n, rest)
 
@@ -141,38 +145,43 @@ module _ (m : ℕ) (st : State) (c : SlotCall) where
   unfolding stepped slotOnHosts
   slot-cases P on-tables declines = arms P (eqb refusing 0) _ _ (λ e. on-tables) (λ e. declines refusing (eqb-false refusing 0 e) refl)
 
-  -- what a served call is
-  pub record Served : Type 0 where
-    pub some-port : 1 ≤ st .ports
-    pub most-ports : st .ports ≤ m
-    pub whole-block : length (c .block) ≡ st .ports * configLen
-    pub room : st .ports * grantLen ≤ length (c .out)
-    pub as-on-tables : called m st c ≡ tables.called m st (onTables m st c)
+  pub request-rows : length (onTables m st c .req) ≡ m
+  unfolding counted hostsOf
+  request-rows = simp length-tabled
 
-  pub served-slot : number m st c ≡ 0 → Served
-  unfolding declined
-  served-slot e =
-      let (ports, t2) = other-number (λ q. omega arith) (number-by-table 0 .0 e) in
-      let (offsets, t3) = other-number (λ q. omega arith) t2 in
-      let (stale, t4) = other-number (λ q. omega arith) t3 in
-      let (early, t5) = other-number (λ q. omega arith) t4 in
-      let (limit, t6) = other-number (λ q. omega arith) t5 in
-      let (block, t7) = other-number (λ q. omega arith) t6 in
-      let (out, t12) = other-number (λ q. omega arith) t7 in
-      record {
-        some-port = not-less (λ h. ports (inl h));
-        most-ports = not-less (λ h. ports (inr h));
-        whole-block = go (ℕ-discrete _ _) block;
-        room = not-less out;
-        as-on-tables = slot-cases (λ r. r .answer .number ≡ 0 → r ≡ tables.called m st (onTables m st c)) (λ q. refl) (λ x ne why q. absurd (ne q)) e;
-      }
+  -- the block of a call that none of the numbers 1 to 7 declines is whole, and the rest of the table says the number
+  pub taken : (x : ℕ) → (1 ≤ x → x ≤ 7 → ⊥) → number m st c ≡ x → Whole m (st .ports) (c .block) × Row 12 (Stuck m st c) (λ x. x ≡ 0) x
+  taken x none e =
+      let (ports, t2) = other-number (λ q. none (omega arith) (omega arith)) (number-by-table x .0 e) in
+      let (_, t3) = other-number (λ q. none (omega arith) (omega arith)) t2 in
+      let (_, t4) = other-number (λ q. none (omega arith) (omega arith)) t3 in
+      let (_, t5) = other-number (λ q. none (omega arith) (omega arith)) t4 in
+      let (_, t6) = other-number (λ q. none (omega arith) (omega arith)) t5 in
+      let (block, t7) = other-number (λ q. none (omega arith) (omega arith)) t6 in
+      let (_, t12) = other-number (λ q. none (omega arith) (omega arith)) t7 in
+      (record { some-port = not-less (λ h. ports (inl h)); most-ports = not-less (λ h. ports (inr h)); whole-block = equal (ℕ-discrete _ _) block }, t12)
     where
       not-less : {x y : ℕ} → (x < y → ⊥) → y ≤ x
       not-less h = omega arith
 
-      go : {x y : ℕ} → Dec (x ≡ y) → ((x ≡ y → ⊥) → ⊥) → x ≡ y
-      go (yes q) h = q
-      go (no q) h = absurd (h q)
+      equal : {x y : ℕ} → Dec (x ≡ y) → ((x ≡ y → ⊥) → ⊥) → x ≡ y
+      equal (yes q) h = q
+      equal (no q) h = absurd (h q)
+
+  -- a served call is the call on tables
+  module _ (done : number m st c ≡ 0) where
+    pub whole : Whole m (st .ports) (c .block)
+    whole = taken 0 (λ h l. omega arith) done .0
+
+    pub as-on-tables : called m st c ≡ tables.called m st (onTables m st c)
+    unfolding declined
+    as-on-tables = slot-cases (λ r. r .answer .number ≡ 0 → r ≡ tables.called m st (onTables m st c)) (λ q. refl) (λ x some why q. absurd (some q)) done
+
+    pub same-number : tables.number m st (onTables m st c) ≡ 0
+    same-number = ap (λ (r : Stepped). r .answer .number) (sym as-on-tables) ∙ done
+
+    pub same-sets : sets m st c ≡ tables.sets m st (onTables m st c)
+    same-sets = ap (λ (r : Stepped). r .answer .sets) as-on-tables
 
   -- the numbers before 6 are those of the call on tables
   pub first-numbers : (x : ℕ) → (x ≡ 0 → ⊥) → (x ≡ 6 → ⊥) → (x ≡ 7 → ⊥) → (x ≡ 12 → ⊥) → (number m st c ≡ x) ↔ (tables.number m st (onTables m st c) ≡ x)

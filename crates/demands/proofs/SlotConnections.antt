@@ -9,18 +9,14 @@ use lib.ListN.{length}
 use Rattle.laws.specs.Sets.{asks}
 use Rattle.laws.proofs.Tests.{refuted}
 use Rattle.laws.proofs.Members.{asks-empty}
-use Rattle.laws.proofs.Rows.{length-tabled}
-use Rattle.lcf.specs.Heard.{counted}
 use Rattle.lcf.specs.Slot.{declined}
 use Rattle.lcf.specs.declared.state.State.{State}
-use Rattle.lcf.specs.declared.work.Stepped.{Stepped}
-use Rattle.shelf.specs.Hosts.{hostsOf}
 use Rattle.demands.specs.Call as tables
 use Rattle.demands.specs.Origin.{Alone}
 use Rattle.demands.specs.SlotCall.{SlotCall, number, sets, onTables}
 use Rattle.demands.specs.Block.{Enabled, Given, Live}
 use Rattle.demands.proofs.Connections as on-tables
-use Rattle.demands.proofs.SlotCalls.{slot-cases, served-slot}
+use Rattle.demands.proofs.SlotCalls.{request-rows, slot-cases, whole, same-number, same-sets}
 use Rattle.demands.proofs.SlotHosts.{Whole, given-exactly, live-in-block}
 use Rattle.demands.proofs.SlotRefusal.{declined-does-nothing}
 
@@ -39,18 +35,6 @@ module _ (m : ℕ) (st : State) (c : SlotCall) where
       go (yes z) = z
       go (no some) = absurd (true≢false (sym e ∙ ap (λ s. asks s i t) (declined-does-nothing m st c some .0 .no-sets) ∙ asks-empty m i t))
 
-  module _ (done : number m st c ≡ 0) where
-    -- the block of a served call is whole
-    pub whole : Whole m (st .ports) (c .block)
-    whole = let s = served-slot m st c done in record { some-port = s .some-port; most-ports = s .most-ports; whole-block = s .whole-block }
-
-    -- its sets are those of the call on tables
-    pub same-sets : sets m st c ≡ tables.sets m st (onTables m st c)
-    same-sets = ap (λ (r : Stepped). r .answer .sets) (served-slot m st c done .as-on-tables)
-
-    pub same-number : tables.number m st (onTables m st c) ≡ 0
-    same-number = ap (λ (r : Stepped). r .answer .number) (sym (served-slot m st c done .as-on-tables)) ∙ done
-
   -- A connection is an enabled heard host's. It was given to it in the planned stage, the host being the first claimant; or it is a
   -- live request, and all that the host holds.
   pub nothing-from-nowhere : (i t : ℕ) → asks (sets m st c) i t ≡ true
@@ -65,21 +49,17 @@ module _ (m : ℕ) (st : State) (c : SlotCall) where
       done = connected-served i t e
 
       w : Whole m (st .ports) (c .block)
-      w = whole done
+      w = whole m st c done
 
       same : sets m st c ≡ tables.sets m st (onTables m st c)
-      same = same-sets done
+      same = same-sets m st c done
 
   -- A host that is unheard or disabled is connected to nothing.
   pub absent-unconnected : (i t : ℕ) → (Enabled (st .ports) (c .block) i → ⊥) → asks (sets m st c) i t ≡ false
   absent-unconnected i t absent = refuted _ (λ e. absent (nothing-from-nowhere i t e .0))
 
-  rows : length (onTables m st c .req) ≡ m
-  unfolding counted hostsOf
-  rows = simp length-tabled
-
   -- What was given in the planned stage is connected when the call is served.
   pub given-connected : (i t : ℕ) → number m st c ≡ 0 → Given st (c .block) i t → asks (sets m st c) i t ≡ true
   given-connected i t done g =
-      let row : i < length (onTables m st c .req) = rw rows (omega (arith, g .initiator, whole done .most-ports)) in
-      rw (same-sets done) (on-tables.given-connected m st (onTables m st c) i t (same-number done) row (given-exactly (whole done) i t .1 g))
+      let row : i < length (onTables m st c .req) = rw (request-rows m st c) (omega (arith, g .initiator, whole m st c done .most-ports)) in
+      rw (same-sets m st c done) (on-tables.given-connected m st (onTables m st c) i t (same-number m st c done) row (given-exactly (whole m st c done) i t .1 g))

@@ -7,30 +7,24 @@ use borrow.Author.Tests.{eq-eqb, eqb-true, eqb-false}
 use Rattle.laws.specs.Sets.{asks}
 use Rattle.laws.proofs.Tests.{both}
 use Rattle.frames.specs.Part.{mostPorts}
-use Rattle.lcf.specs.Advance.{advance}
 use Rattle.lcf.specs.declared.state.State.{State}
-use Rattle.lcf.specs.declared.work.Stepped.{Stepped}
 use Rattle.demands.specs.History.{Below, howMany, InEach, quota, Fair}
 use Rattle.demands.specs.Origin.{Alone}
 use Rattle.demands.specs.Call as tables
-use Rattle.demands.specs.SlotCall.{SlotCall, next, number, sets, served, left, onTables}
+use Rattle.demands.specs.SlotCall.{SlotCall, next, number, sets, served, outputAfter, onTables}
 use Rattle.demands.specs.SlotShare.{names, connects, Waiting}
 use Rattle.demands.proofs.Calls.{served-call}
 use Rattle.demands.proofs.Share.{tables-fair, waiting-alone}
 use Rattle.demands.proofs.Turns.{fair-share}
-use Rattle.demands.proofs.SlotCalls.{served-slot}
+use Rattle.demands.proofs.SlotCalls.{whole, same-number, same-sets}
 use Rattle.demands.proofs.SlotHosts.{waits-on-tables}
-use Rattle.demands.proofs.SlotConnections.{whole, same-sets, same-number}
 use Rattle.demands.proofs.SlotGrants.{alone-named}
 use Rattle.demands.proofs.SlotRefusal.{declined-does-nothing}
-
--- a served call advances the state (rule 7)
-pub served-advances : (m : ℕ) (st : State) (c : SlotCall) → number m st c ≡ 0 → next m st c ≡ advance st
-served-advances m st c done = ap (λ (r : Stepped). r .state) (served-slot m st c done .as-on-tables) ∙ served-call m st (onTables m st c) (same-number m st c done) .advances
+use Rattle.demands.proofs.SlotServed.{served-advances}
 
 -- When a waiting pair is connected, it is all that its initiator holds, and its host's grant frame names the target.
 pub waiting-named : (m : ℕ) → m ≤ mostPorts → (st : State) (c : SlotCall) (i t : ℕ) → i < st .ports → number m st c ≡ 0 → Waiting i t st c
-    → asks (sets m st c) i t ≡ true → Alone (sets m st c) i t × (names (left m st c) i t ≡ true)
+    → asks (sets m st c) i t ≡ true → Alone (sets m st c) i t × (names (outputAfter m st c) i t ≡ true)
 waiting-named m most st c i t i< done w e =
     let same = same-sets m st c done in
     let only = waiting-alone m st (onTables m st c) i t (waits-on-tables (whole m st c done) i t i< w) (ap (λ s. asks s i t) (sym same) ∙ e) in

@@ -36,8 +36,8 @@ abbrev pub served : ℕ → State → SlotCall → Bool
 served m st c = eqb (number m st c) 0
 
 -- the bytes that the output holds after it
-abbrev pub left : ℕ → State → SlotCall → List ℕ
-left m st c = output m st (c .slot) (c .mode) (c .block) (c .link) (c .out)
+abbrev pub outputAfter : ℕ → State → SlotCall → List ℕ
+outputAfter m st c = output m st (c .slot) (c .mode) (c .block) (c .link) (c .out)
 
 -- the call on tables that it comes to: what counts of the hosts' req and pre, by rules 1 and 2
 abbrev pub onTables : ℕ → State → SlotCall → Call

@@ -7,7 +7,7 @@ use lib.ListN.{take, drop}
 use Rattle.laws.specs.Sets.{asks}
 use Rattle.frames.specs.Grant.{grantLen, readGrant}
 use Rattle.lcf.specs.declared.state.State.{State}
-use Rattle.demands.specs.SlotCall.{SlotCall, sets, served, left}
+use Rattle.demands.specs.SlotCall.{SlotCall, sets, served, outputAfter}
 use Rattle.demands.specs.Block.{Waits}
 
 -- the bytes of host i's grant frame in an output
@@ -22,7 +22,7 @@ names out i t =
 
 -- the call is served, the pair (i, t) is in the table that it returns, and host i's grant frame in the output names t
 abbrev pub connects : ℕ → ℕ → ℕ → State → SlotCall → Bool
-connects m i t st c = served m st c && (asks (sets m st c) i t && names (left m st c) i t)
+connects m i t st c = served m st c && (asks (sets m st c) i t && names (outputAfter m st c) i t)
 
 -- the pair waits in a call
 abbrev pub Waiting : ℕ → ℕ → State → SlotCall → Type 0
