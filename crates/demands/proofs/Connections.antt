@@ -1,19 +1,15 @@
 -- No target twice, and nothing from nowhere: for every state and call, served or declined.
 use mathlib.Core.Path.{_≡_, sym, _∙_}
-use mathlib.Core.Logic.{_⊎_, ⊎-elim}
-use mathlib.Core.Bool.{true, false, true≢false}
-use mathlib.Core.List.{List}
+use mathlib.Core.Logic.{_⊎_}
+use mathlib.Core.Bool.{true, true≢false}
 use Prim.Native.Nat.{ℕ, _<_}
 use lib.ListN.{length}
 use Rattle.laws.specs.Sets.{asks}
-use Rattle.laws.proofs.Tests.{refuted}
 use Rattle.laws.proofs.Members.{asks-empty}
-use Rattle.lcf.specs.Heard.{present}
 use Rattle.lcf.specs.declared.state.State.{State}
-use Rattle.demands.specs.Call.{Call, number, sets, counting}
+use Rattle.demands.specs.Call.{Call, number, sets}
 use Rattle.demands.specs.Origin.{Given, Live, Alone}
 use Rattle.demands.proofs.Calls.{of-sets, served-call}
-use Rattle.demands.proofs.Hosts.{counted-asks}
 use Rattle.demands.proofs.Lawful.{Source, matched-once, matched-source, matched-given}
 
 module _ (m : ℕ) (st : State) where
@@ -31,11 +27,3 @@ module _ (m : ℕ) (st : State) where
   -- What was given is connected when the call is served.
   pub given-connected : (c : Call) (i t : ℕ) → number m st c ≡ 0 → i < length (c .req) → Given st (c .pre) i t → asks (sets m st c) i t ≡ true
   given-connected c i t e row g = rw (served-call m st c e .sets-matched) (matched-given st (c .req) (c .pre) (c .mode) i t row g)
-
-  -- An initiator that is unheard or disabled is connected to nothing.
-  pub absent-unconnected : (c : Call) (heard : ℕ) (ben : List ℕ) (i t : ℕ) → present (st .ports) heard ben i ≡ false
-      → asks (sets m st (counting st heard ben c)) i t ≡ false
-  absent-unconnected c heard ben i t absent = refuted _ (λ e. ⊎-elim
-      (λ given. true≢false (sym (counted-asks (st .ports) heard ben (c .pre) i t (given .claimant .asks-too) .0) ∙ absent))
-      (λ live. true≢false (sym (counted-asks (st .ports) heard ben (c .req) i t (live .0 .asked) .0) ∙ absent))
-      (nothing-from-nowhere (counting st heard ben c) i t e))

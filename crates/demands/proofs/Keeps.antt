@@ -39,7 +39,7 @@ offered st live grant i t e =
     (x, eqb-true (getD grant t 0) i y)
 
 module _ (P : Work → Type 0) (keeps : (s : Work) (i t : ℕ) → asks (s .live) i t ≡ true → P s → P (join s i t)) (st : State) where
-  live-keeps : (s : Work) (i t : ℕ) → P s → P (joinLive s i t)
+  pub live-keeps : (s : Work) (i t : ℕ) → P s → P (joinLive s i t)
   unfolding joinLive
   live-keeps s i t p = arms P (asks (s .live) i t) _ _ (λ e. keeps s i t e p) (λ e. p)
 
@@ -77,7 +77,7 @@ module _ (P : Work → Type 0) (keeps : (s : Work) (i t : ℕ) → asks (s .live
               omega arith;
         }
 
-  round-keeps : (s : Work) → P s → P (round st s .work)
+  pub round-keeps : (s : Work) → P s → P (round st s .work)
   unfolding round
   round-keeps s p = kept _ _ (Answered (s .live) _ (grants st (s .live))) (st .ports) (λ k r h. answer-keeps (s .live) _ _ k r)
       (record { good = p; still = λ i t l e. offered st (s .live) _ i t e .0 }) .good

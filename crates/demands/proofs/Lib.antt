@@ -1,4 +1,13 @@
--- the demands
+-- the list
+pub mod Demands
+-- the slot call on frames
+pub mod SlotShare
+pub mod SlotConnections
+pub mod SlotGrants
+pub mod SlotRefusal
+pub mod SlotServed
+pub mod LentSlot
+-- the call on tables
 pub mod Share
 pub mod Connections
 pub mod Refusal
@@ -8,6 +17,10 @@ pub mod Rules
 pub mod Hosts
 pub mod Stage
 -- what they rest on
+pub mod SlotCalls
+pub mod SlotHosts
+pub mod Lowest
+pub mod Progress
 pub mod Turns
 pub mod Lawful
 pub mod Keeps

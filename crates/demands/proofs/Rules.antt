@@ -63,7 +63,7 @@ module _ (st : State) where
     unfolding askers
     askers-row t t< = sizes-row (askers st live) t ∙ ap ones (row-tabled (length live) (column live (st .ports)) (st .ports) t t< (omega arith))
 
-    in-offers : (i t : ℕ) → t < st .ports → has (offers st live (grants st live) i) t ≡ granted st live i t
+    pub in-offers : (i t : ℕ) → t < st .ports → has (offers st live (grants st live) i) t ≡ granted st live i t
     unfolding offers
     in-offers i t = has-gathered (granted st live i) (st .ports) t
 

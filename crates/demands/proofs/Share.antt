@@ -7,9 +7,7 @@ use Prim.Native.Nat.{ℕ, _≤_, _<_}
 use lib.ListN.{length}
 use borrow.Author.Tests.{eqb-true, eqb-false}
 use Rattle.laws.specs.Sets.{asks}
-use Rattle.laws.proofs.Tests.{refuted}
 use Rattle.laws.proofs.Members.{asks-row}
-use Rattle.lcf.specs.Heard.{counted}
 use Rattle.lcf.specs.Slot.{start, matched}
 use Rattle.lcf.specs.declared.state.State.{State}
 use Rattle.lcf.specs.declared.state.Mode.{Mode}
@@ -18,8 +16,6 @@ use Rattle.demands.specs.Origin.{Live, Alone}
 use Rattle.demands.specs.Call.{Call, next, sets, served}
 use Rattle.demands.specs.History.{Below, howMany, InEach, quota, Fair}
 use Rattle.demands.specs.Share.{connects, Waits, Waiting}
-use Rattle.demands.specs.Hosts.{HostWaits}
-use Rattle.demands.proofs.Hosts.{counted-asks, asks-counted}
 use Rattle.demands.proofs.Connections.{nothing-from-nowhere}
 use Rattle.demands.proofs.Join.{held-still, held-now}
 use Rattle.demands.proofs.Keeps.{mode-favours}
@@ -79,12 +75,3 @@ share m i t = fair-share (tables-fair m i t)
 pub waiting-alone : (m : ℕ) (st : State) (c : Call) (i t : ℕ) → Waiting i t st c → asks (sets m st c) i t ≡ true → Alone (sets m st c) i t
 waiting-alone m st c i t w e = ⊎-elim (λ given. absurd (true≢false (sym (given .claimant .asks-too) ∙ w .plans-nothing t (given .target)))) (λ live. live .1)
     (nothing-from-nowhere m st c i t e)
-
--- A host that waits, waits in the tables that count by rules 1 and 2.
-pub hosts-wait : (n heard : ℕ) (ben req pre : List ℕ) (i t : ℕ) → i < n → HostWaits n heard ben req pre i t
-    → Waits n (counted n heard ben req) (counted n heard ben pre) i t
-hosts-wait n heard ben req pre i t i< w = record {
-  asked = asks-counted n heard ben req i t i< (w .here) (w .asked);
-  plans-nothing = λ u u<. refuted _ (λ e. true≢false (sym (counted-asks n heard ben pre i u e .1) ∙ w .plans-nothing u u<));
-  unplanned = λ h h<. refuted _ (λ e. let (x, y) = counted-asks n heard ben pre h t e in true≢false (sym y ∙ w .unplanned h h< x));
-}

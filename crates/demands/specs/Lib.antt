@@ -1,7 +1,14 @@
+-- the slot call on frames
+pub mod SlotCall
+pub mod Block
+pub mod SlotShare
+pub mod Told
+pub mod Numbers
+-- the call on tables
 pub mod Call
-pub mod History
 pub mod Share
-pub mod Hosts
 pub mod Origin
 pub mod Choice
 pub mod Refusal
+-- any kind of call
+pub mod History

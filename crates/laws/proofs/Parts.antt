@@ -18,18 +18,21 @@ module _ (f : ℕ → List ℕ) (w : ℕ) (each : (i : ℕ) → length (f i) ≡
   length-parts zero = sym (zero-mul w)
   length-parts (suc n) = length-append (parts f n) (f n) ∙ rw (length-parts n, each n) (sym (suc-mul n w))
 
-  pub part-at : (n i : ℕ) → i < n → take w (drop (i * w) (parts f n)) ≡ f i
-  unfolding steps
-  part-at zero i h = absurd (not-suc-le-zero h)
-  part-at (suc n) i h =
-      ⊎-elim
-      (λ e. rw e (ap (take w) (drop-at (parts f n) (f n) (n * w) (length-parts n)) ∙ take-all w (f n) (le-of-eq (each n))))
-      (λ l.
+  -- what follows the parts moves none of them
+  pub part-before : (n i : ℕ) (rest : List ℕ) → i < n → take w (drop (i * w) (parts f n ++ rest)) ≡ take w (drop (i * w) (parts f n))
+  part-before n i rest l =
       let within : suc i * w ≤ n * w = mul-le-mul-right w l in
       let whole = length-parts n in
       let start : i * w ≤ length (parts f n) = omega (arith, suc-mul i w) in
       let room : w ≤ length (drop (i * w) (parts f n)) = simp length-drop (omega (arith, suc-mul i w)) in
-      rw (drop-append-le (i * w) (parts f n) (f n) start, take-append-le w (drop (i * w) (parts f n)) (f n) room) (part-at n i l))
+      rw (drop-append-le (i * w) (parts f n) rest start, take-append-le w (drop (i * w) (parts f n)) rest room)
+
+  pub part-at : (n i : ℕ) → i < n → take w (drop (i * w) (parts f n)) ≡ f i
+  unfolding steps
+  part-at zero i h = absurd (not-suc-le-zero h)
+  part-at (suc n) i h = ⊎-elim
+      (λ e. rw e (ap (take w) (drop-at (parts f n) (f n) (n * w) (length-parts n)) ∙ take-all w (f n) (le-of-eq (each n))))
+      (λ l. part-before n i (f n) l ∙ part-at n i l)
       (eq-or-lt-of-le (le-of-suc-le-suc h))
 
   -- part i, written at the front of what is left of the slice o from its place on

@@ -7,6 +7,9 @@ pub both : (a b : Bool) → a && b ≡ true → (a ≡ true) × (b ≡ true)
 both true b e = (refl, e)
 both false b e = absurd (true≢false (sym e))
 
+pub every : {a b : Bool} → a ≡ true → b ≡ true → a && b ≡ true
+every p q = rw (p, q)
+
 pub either : (a b : Bool) → a || b ≡ true → (a ≡ true) ⊎ (b ≡ true)
 either true b e = inl refl
 either false b e = inr e

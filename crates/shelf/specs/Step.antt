@@ -7,7 +7,7 @@ use lib.ListN.{length}
 use Rattle.frames.specs.Frame.{differs}
 use Rattle.frames.specs.Config.{configLen}
 use Rattle.frames.specs.Grant.{grantLen}
-use Rattle.lcf.specs.Heard.{tables}
+use Rattle.lcf.specs.Heard.{counted}
 use Rattle.lcf.specs.Slot.{dueNumber, declined, slotOnTables}
 use Rattle.lcf.specs.declared.state.State.{State}
 use Rattle.lcf.specs.declared.state.Mode.{Mode}
@@ -26,8 +26,7 @@ refusal m st slot mode block out =
 -- rules 1 and 2, then the slot on what counts of req and pre
 unfoldable pub slotOnHosts : ℕ → State → ℕ → Mode → Hosts → Stepped
 slotOnHosts m st slot mode hosts =
-    let counted = tables (st .ports) (hosts .heard) (hosts .ben) (hosts .req) (hosts .pre) in
-    slotOnTables m st slot mode (counted .req) (counted .pre)
+    slotOnTables m st slot mode (counted (st .ports) (hosts .heard) (hosts .ben) (hosts .req)) (counted (st .ports) (hosts .heard) (hosts .ben) (hosts .pre))
 
 -- the next state, the number, the sets and the rounds
 unfoldable pub stepped : ℕ → State → ℕ → Mode → List ℕ → List ℕ → Stepped

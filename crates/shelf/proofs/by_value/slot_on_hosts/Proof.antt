@@ -1,11 +1,10 @@
 use borrow.Author.Needs.{needs}
-use Rattle.shelf.specs.Step.{slotOnHosts}
+use Rattle.shelf.proofs.Stepping.{on-hosts}
 use Rattle.shelf.proofs.by_value.slot_on_hosts.Statement.{statement}
 use Rattle.shelf.proofs.by_value.slot_on_hosts.Tie as tie
 
 pub slot-on-hosts-spec : {M : Type 1} → statement M
-unfolding slotOnHosts
 slot-on-hosts-spec =
     tie.close
     (tie.spec (λ c κs. search needs) (λ c κs. search needs)
-    (λ c. rw (← c .before .before .before .counted .ensures) (c .slot-on-tables .ensures)))
+    (λ c. on-hosts 16 _ _ _ _ _ _ (c .before .before .before .counted .ensures) (c .slot-on-tables .ensures)))

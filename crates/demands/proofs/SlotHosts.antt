@@ -1,0 +1,153 @@
+-- Rules 1 to 4: what the frames of a whole block say is what counts in the tables.
+use mathlib.Core.Path.{_≡_, refl, sym, ap, _∙_}
+use mathlib.Core.Logic.{_↔_}
+use mathlib.Core.Bool.{true}
+use mathlib.Core.List.{List}
+use Prim.Native.Nat.{ℕ, _+_, _*_, _≤_, _<_}
+use native.Mathlib.Nat.{mod-lt}
+use native.Mathlib.Omega.{arith}
+use lib.ListN.{length, getD}
+use borrow.Author.Tests.{eqb-true, eq-eqb, le-ltb, lt-leb}
+use Rattle.laws.specs.Sets.{has, asks, tabled}
+use Rattle.laws.proofs.Tests.{refuted}
+use Rattle.laws.proofs.Members.{gathered-has, has-gathered}
+use Rattle.laws.proofs.Rows.{row-tabled}
+use Rattle.frames.specs.Frame.{Answer}
+use Rattle.frames.specs.Config.{configLen}
+use Rattle.frames.specs.Part.{hostNumber}
+use Rattle.frames.specs.declared.config.Config.{Config}
+use Rattle.lcf.specs.Heard.{present, counted}
+use Rattle.lcf.specs.declared.state.State.{State}
+use Rattle.shelf.specs.Hosts.{said, isHeard, fieldOf, hostsOf}
+use Rattle.demands.specs.Origin as tables
+use Rattle.demands.specs.Share as tables-share
+use Rattle.demands.specs.Choice.{targetStart}
+use Rattle.demands.specs.Block.{says, Heard, Requests, Plans, Enabled, Waits, Given, Live}
+use Rattle.demands.proofs.Hosts.{present-exactly, counted-asks, asks-counted}
+
+-- a block of n frames, on a shelf of at most m ports
+pub record Whole (m n : ℕ) (block : List ℕ) : Type 0 where
+  pub some-port : 1 ≤ n
+  pub most-ports : n ≤ m
+  pub whole-block : length block ≡ n * configLen
+
+module _ {m n : ℕ} {block : List ℕ} (whole : Whole m n block) where
+  abbrev heard : ℕ
+  heard = hostsOf m n block .heard
+
+  abbrev ben : List ℕ
+  ben = hostsOf m n block .ben
+
+  -- ---- rule 1
+
+  said-says : (h : ℕ) → h < n → said m n block h ≡ says block h
+  unfolding said hostNumber
+  said-says h h< =
+      rw (le-ltb n 1 (whole .some-port), le-ltb m n (whole .most-ports), eq-eqb (length block) (n * configLen) (whole .whole-block), lt-leb n h h<)
+
+  pub heard-exactly : (h : ℕ) → h < n → (has heard h ≡ true) ↔ Heard block h
+  unfolding hostsOf
+  heard-exactly h h< =
+      let at = has-gathered (isHeard m n block) n h h< in
+      let same = ap (λ (a : Answer Config). a .number) (said-says h h<) in
+      (λ e. sym same ∙ eqb-true _ 0 (sym at ∙ e), λ e. at ∙ eq-eqb _ 0 (same ∙ e))
+
+  field-row : (field : Config → ℕ) (h : ℕ) → h < n → getD (tabled m (fieldOf m n block field) n) h 0 ≡ field (says block h .fields)
+  field-row field h h< = row-tabled m (fieldOf m n block field) n h h< (omega (arith, whole .most-ports)) ∙ ap (λ (a : Answer Config). field (a .fields)) (said-says h h<)
+
+  -- ---- rule 2
+
+  pub enabled-exactly : (i : ℕ) → (present n heard ben i ≡ true) ↔ ((i < n) × Enabled n block i)
+  unfolding hostsOf
+  enabled-exactly i = (to, from)
+    where
+      votes : (h : ℕ) → h < n → getD ben h 0 ≡ says block h .fields .ben
+      votes = field-row (λ c. c .ben)
+
+      to : present n heard ben i ≡ true → (i < n) × Enabled n block i
+      to e =
+          let (a, b) = present-exactly n heard ben i .0 e in
+          let i< = gathered-has (isHeard m n block) n i a .0 in (
+            i<,
+            record { heard = heard-exactly i i< .0 a; voted = λ h h< q. ap (λ s. has s i) (sym (votes h h<)) ∙ b h h< (heard-exactly h h< .1 q) },
+          )
+
+      from : (i < n) × Enabled n block i → present n heard ben i ≡ true
+      from (i<, e) = present-exactly n heard ben i .1
+          (heard-exactly i i< .1 (e .heard), λ h h< q. ap (λ s. has s i) (votes h h<) ∙ e .voted h h< (heard-exactly h h< .0 q))
+
+  -- what counts of a field is what an enabled host sent
+  counts : (field : Config → ℕ) (i t : ℕ)
+      → (asks (counted n heard ben (tabled m (fieldOf m n block field) n)) i t ≡ true)
+      ↔ ((i < n) × Enabled n block i × (has (field (says block i .fields)) t ≡ true))
+  counts field i t = (
+    λ e. let (p, a) = counted-asks n heard ben _ i t e in
+        let (i<, enabled) = enabled-exactly i .0 p in
+        (i<, enabled, ap (λ s. has s t) (sym (field-row field i i<)) ∙ a),
+    λ (i<, enabled, a). asks-counted n heard ben _ i t i< (enabled-exactly i .1 (i<, enabled))
+        (ap (λ s. has s t) (field-row field i i<) ∙ a),
+  )
+
+  abbrev req : List ℕ
+  req = counted n heard ben (hostsOf m n block .req)
+
+  abbrev pre : List ℕ
+  pre = counted n heard ben (hostsOf m n block .pre)
+
+  requests-count : (i t : ℕ) → (asks req i t ≡ true) ↔ ((i < n) × Enabled n block i × Requests block i t)
+  unfolding hostsOf
+  requests-count = counts (λ c. c .req)
+
+  plans-count : (i t : ℕ) → (asks pre i t ≡ true) ↔ ((i < n) × Enabled n block i × Plans block i t)
+  unfolding hostsOf
+  plans-count = counts (λ c. c .pre)
+
+  -- ---- demand 3
+
+  pub waits-on-tables : (i t : ℕ) → i < n → Waits n block i t → tables-share.Waits n req pre i t
+  waits-on-tables i t i< w = record {
+    asked = requests-count i t .1 (i<, w .enabled, w .asked);
+    plans-nothing = λ u u<. refuted _ (λ e. w .plans-nothing u u< (plans-count i u .0 e .2));
+    unplanned = λ h h<. refuted _ (λ e. let (a, enabled, plans) = plans-count h t .0 e in w .unplanned h h< enabled plans);
+  }
+
+-- ---- rules 3 and 4
+
+module _ {m : ℕ} {st : State} {block : List ℕ} (whole : Whole m (st .ports) block) where
+  pub given-exactly : (i t : ℕ) → tables.Given st (pre whole) i t ↔ Given st block i t
+  given-exactly i t = (
+    λ g. let (i<, enabled, plans) = plans-count whole i t .0 (g .claimant .asks-too) in
+        record {
+          initiator = i<;
+          target = g .target;
+          claimant = record { enabled = enabled; plans = plans };
+          turn = g .claimant .turn;
+          turn-below = g .claimant .turn-below;
+          in-turn = g .claimant .in-turn;
+          first = λ k l q. g .claimant .first k l (plans-count whole _ t .1 (mod-lt (targetStart st t + k) (whole .some-port), q .enabled, q .plans)) refl;
+        },
+    λ g. record {
+      target = g .target;
+      claimant = record {
+        below = g .initiator;
+        asks-too = plans-count whole i t .1 (g .initiator, g .claimant .enabled, g .claimant .plans);
+        lowest = λ x x< e. omega arith;
+        turn = g .turn;
+        turn-below = g .turn-below;
+        in-turn = g .in-turn;
+        first = λ k l e same. let (a, enabled, plans) = plans-count whole _ t .0 e in g .first k l (record { enabled = enabled; plans = plans });
+      };
+    },
+  )
+
+  pub live-in-block : (i t : ℕ) → tables.Live st (req whole) (pre whole) i t → Live st block i t
+  live-in-block i t l =
+      let (i<, enabled, asked) = requests-count whole i t .0 (l .asked) in
+      record {
+        initiator = i<;
+        target = l .target;
+        enabled = enabled;
+        asked = asked;
+        given-none = λ u g. l .given-none u (given-exactly i u .1 g);
+        given-to-none = λ j g. l .given-to-none j (given-exactly j t .1 g);
+      }

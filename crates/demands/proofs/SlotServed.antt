@@ -1,0 +1,54 @@
+-- Which slot calls are served, and what a served one does to the state.
+use mathlib.Core.Path.{_≡_, refl, sym, ap, _∙_}
+use mathlib.Core.Logic.{⊎-elim}
+use mathlib.Core.Bool.{true≢false}
+use Prim.Native.Nat.{ℕ, _*_, _≤_}
+use native.Mathlib.Omega.{arith}
+use lib.ListN.{length}
+use Rattle.frames.specs.Config.{configLen}
+use Rattle.frames.specs.Grant.{grantLen}
+use Rattle.lcf.specs.Advance.{advance}
+use Rattle.lcf.specs.Slot.{behind}
+use Rattle.lcf.specs.declared.state.State.{State}
+use Rattle.lcf.specs.declared.work.Stepped.{Stepped}
+use Rattle.demands.specs.Refusal.{InOrder}
+use Rattle.demands.specs.SlotCall.{SlotCall, next, number, onTables}
+use Rattle.demands.specs.Numbers.{WrongLimit, Stuck, Row, given, passed}
+use Rattle.demands.proofs.Calls.{served-call}
+use Rattle.demands.proofs.Progress.{never-stuck}
+use Rattle.demands.proofs.SlotCalls.{number-by-table, request-rows, taken, as-on-tables, same-number}
+
+module _ (m : ℕ) (st : State) (c : SlotCall) where
+  never-stuck-here : st .ports ≤ m → Stuck m st c → ⊥
+  never-stuck-here ports stuck = true≢false (sym stuck ∙ never-stuck st (c .mode) (onTables m st c .req) (onTables m st c .pre) (rw (request-rows m st c) ports))
+
+  -- No call is given 12: a round with a live request joins somebody.
+  pub never-twelve : number m st c ≡ 12 → ⊥
+  never-twelve e = let (block, row) = taken m st c 12 (λ h l. omega arith) e in last (block .most-ports) row
+    where
+      last : st .ports ≤ m → Row 12 (Stuck m st c) (λ x. x ≡ 0) 12 → ⊥
+      last ports (given stuck e) = never-stuck-here ports stuck
+      last ports (passed free e) = omega arith
+
+  -- A call in order is served: the slot is the one due, limit, block and output are as they must be.
+  pub served-in-order : InOrder m st → c .slot ≡ st .due → (WrongLimit m (c .mode) → ⊥) → length (c .block) ≡ st .ports * configLen
+      → st .ports * grantLen ≤ length (c .out) → number m st c ≡ 0
+  unfolding behind
+  served-in-order o due limit block out =
+      let now = on-time (c .slot) due in
+      number-by-table m st c 0 .1
+      (passed (⊎-elim (λ h. omega (arith, o .some-port)) (λ h. omega (arith, o .most-ports)))
+      (passed (⊎-elim (λ h. omega (arith, o .offsets .initiator)) (λ h. omega (arith, o .offsets .target)))
+      (passed (λ h. omega (arith, h .0))
+      (passed (λ h. omega arith)
+      (passed limit
+      (passed (λ other. other block)
+      (passed (λ h. omega arith)
+      (passed (never-stuck-here (o .most-ports)) refl))))))))
+    where
+      on-time : (slot : ℕ) → slot ≡ st .due → behind st slot ≡ 0
+      on-time slot e = omega arith
+
+  -- A served call advances the state (rule 7).
+  pub served-advances : number m st c ≡ 0 → next m st c ≡ advance st
+  served-advances done = ap (λ (r : Stepped). r .state) (as-on-tables m st c done) ∙ served-call m st (onTables m st c) (same-number m st c done) .advances

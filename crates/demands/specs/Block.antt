@@ -1,0 +1,64 @@
+-- Rules 1 to 4, said of the frames in a slot block.
+use mathlib.Core.Path.{_≡_}
+use mathlib.Core.Bool.{true}
+use mathlib.Core.List.{List}
+use Prim.Native.Nat.{ℕ, _*_, _<_}
+use lib.ListN.{take, drop}
+use Rattle.laws.specs.Sets.{has}
+use Rattle.frames.specs.Frame.{Answer}
+use Rattle.frames.specs.Config.{configLen, readConfig}
+use Rattle.frames.specs.declared.config.Config.{Config}
+use Rattle.lcf.specs.Choice.{place}
+use Rattle.lcf.specs.declared.state.State.{State}
+use Rattle.demands.specs.Choice.{targetStart}
+
+-- what the frame of host h reads as: the number, 0 if the frame is correct, and the fields
+abbrev pub says : List ℕ → ℕ → Answer Config
+says block h = readConfig (take configLen (drop (h * configLen) block))
+
+-- rule 1: host h is heard
+abbrev pub Heard : List ℕ → ℕ → Type 0
+Heard block h = says block h .number ≡ 0
+
+-- target t is in the req of host h; and in its pre
+abbrev pub Requests : List ℕ → ℕ → ℕ → Type 0
+Requests block h t = has (says block h .fields .req) t ≡ true
+
+abbrev pub Plans : List ℕ → ℕ → ℕ → Type 0
+Plans block h t = has (says block h .fields .pre) t ≡ true
+
+-- rule 2: host i is heard, and no heard host of n has bit i clear in ben
+pub record Enabled (n : ℕ) (block : List ℕ) (i : ℕ) : Type 0 where
+  pub heard : Heard block i
+  pub voted : (h : ℕ) → h < n → Heard block h → has (says block h .fields .ben) i ≡ true
+
+-- demand 3: host i is enabled, asks for t and plans nothing, and no enabled host plans t
+pub record Waits (n : ℕ) (block : List ℕ) (i t : ℕ) : Type 0 where
+  pub enabled : Enabled n block i
+  pub asked : Requests block i t
+  pub plans-nothing : (u : ℕ) → u < n → Plans block i u → ⊥
+  pub unplanned : (h : ℕ) → h < n → Enabled n block h → Plans block h t → ⊥
+
+-- rule 3: host h is enabled and plans target t
+pub record Claimant (n : ℕ) (block : List ℕ) (t h : ℕ) : Type 0 where
+  pub enabled : Enabled n block h
+  pub plans : Plans block h t
+
+-- rule 3: target t is given to host i, its first claimant in the rotation that starts at (I + t - J) mod n
+pub record Given (st : State) (block : List ℕ) (i t : ℕ) : Type 0 where
+  pub initiator : i < st .ports
+  pub target : t < st .ports
+  pub claimant : Claimant (st .ports) block t i
+  pub turn : ℕ
+  pub turn-below : turn < st .ports
+  pub in-turn : place (st .ports) (targetStart st t) turn ≡ i
+  pub first : (k : ℕ) → k < turn → Claimant (st .ports) block t (place (st .ports) (targetStart st t) k) → ⊥
+
+-- rule 4: enabled host i asks for target t, is given no target, and t is given to nobody
+pub record Live (st : State) (block : List ℕ) (i t : ℕ) : Type 0 where
+  pub initiator : i < st .ports
+  pub target : t < st .ports
+  pub enabled : Enabled (st .ports) block i
+  pub asked : Requests block i t
+  pub given-none : (u : ℕ) → Given st block i u → ⊥
+  pub given-to-none : (j : ℕ) → Given st block j t → ⊥
