@@ -10,6 +10,7 @@ use lib.Dec.{eqb, leb, eqb·suc-zero, lit≤}
 use lib.ListN.{length}
 use Rattle.laws.specs.Sets.{has}
 use Rattle.laws.specs.Bytes.{Bytes, bigEndian}
+use Rattle.laws.proofs.Tests.{both}
 use Rattle.frames.specs.Grant.{grantLen, grantType, agrees, inForm, bit, flags, grantBody, grantFrame, grantOf, bodyInForm, noGrant, grantAnswer, grantNumber, readGrant, writeGrantNumber}
 use Rattle.frames.specs.Frame.{sealed, bodyOf, formNumber, roomNumber}
 use Rattle.frames.specs.declared.grant.Grant.{Grant}
@@ -20,15 +21,11 @@ pub length-grant : (g : Grant) → length (grantFrame g) ≡ grantLen
 unfolding grantFrame bigEndian
 length-grant g = refl
 
-and-true : (a b : Bool) → a && b ≡ true → (a ≡ true) × (b ≡ true)
-and-true true b e = (refl, e)
-and-true false b e = absurd (let z : _≡_ {A = ℕ} 0 1 = cc in omega arith)
-
 pub in-form-small : (g : Grant) → inForm g ≡ true → (g .nodeid ≤ 15) × (g .gnt ≤ 15)
 unfolding inForm
 in-form-small g e =
-    let p = and-true (leb (g .nodeid) 15) _ e in
-    let q = and-true (leb (g .gnt) 15) _ (p .1) in
+    let p = both (leb (g .nodeid) 15) _ e in
+    let q = both (leb (g .gnt) 15) _ (p .1) in
     (leb-true _ _ (p .0), leb-true _ _ (q .0))
 
 -- three flags, to a number and back
@@ -59,7 +56,7 @@ grant-of-body g e =
     let node : (g .nodeid * 16 + g .gnt) / 16 ≡ g .nodeid = omega arith in
     let gnt : (g .nodeid * 16 + g .gnt) % 16 ≡ g .gnt = omega arith in
     let same : grantOf (grantBody g) ≡ g = λ i. record { nodeid = node i; gnt = gnt i; gntval = f .1 i; linkerr = f .2 i; crcerr = f .3 i } in
-    (same, rw (f .0) (ap agrees same ∙ and-true (leb (g .gnt) 15) _ (and-true (leb (g .nodeid) 15) _ e .1) .1))
+    (same, rw (f .0) (ap agrees same ∙ both (leb (g .gnt) 15) _ (both (leb (g .nodeid) 15) _ e .1) .1))
 
 body-grant-of : (body : List ℕ) → Bytes body → length body ≡ grantLen - 3 → bodyInForm body ≡ true → (grantBody (grantOf body) ≡ body) × (inForm (grantOf body) ≡ true)
 unfolding grantOf bodyInForm inForm
@@ -67,7 +64,7 @@ body-grant-of [] bytes long e = absurd (omega arith)
 body-grant-of (a ∷ []) bytes long e = absurd (omega arith)
 body-grant-of (a ∷ f ∷ b ∷ s) bytes long e = absurd (omega arith)
 body-grant-of (a ∷ f ∷ []) bytes long e =
-    let p = and-true (leb f 7) _ e in
+    let p = both (leb f 7) _ e in
     let byte = bytes 0 in
     let node : a / 16 ≤ 15 = omega arith in
     let gnt : a % 16 ≤ 15 = omega arith in

@@ -14,6 +14,10 @@ pub either : (a b : Bool) → a || b ≡ true → (a ≡ true) ⊎ (b ≡ true)
 either true b e = inl refl
 either false b e = inr e
 
+pub neither : (a b : Bool) → a || b ≡ false → (a ≡ false) × (b ≡ false)
+neither true b e = absurd (true≢false e)
+neither false b e = (refl, e)
+
 pub refuted : (b : Bool) → (b ≡ true → ⊥) → b ≡ false
 refuted true f = absurd (f refl)
 refuted false f = refl

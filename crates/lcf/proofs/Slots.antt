@@ -1,12 +1,13 @@
 -- What the number of a slot that is served says, over any greatest port count.
 use mathlib.Core.Path.{_≡_, refl, sym, ap, _∙_}
-use mathlib.Core.Bool.{Bool, true, false, _&&_, _||_, cond, false≢true}
+use mathlib.Core.Bool.{Bool, true, false, _&&_, _||_, cond}
 use mathlib.Core.List.{List}
 use Prim.Native.Nat.{ℕ, _^_, _≤_}
 use lib.Dec.{ltb, leb}
 use lib.ListN.{length, replicate}
 use native.Mathlib.Omega.{arith}
 use borrow.Author.Tests.{ltb-false, leb-false}
+use Rattle.laws.proofs.Tests.{neither}
 use Rattle.lcf.specs.Ready.{Ready}
 use Rattle.lcf.specs.Planned.{planned}
 use Rattle.lcf.specs.Slot.{within, start, behind, wrongLimit, dueNumber}
@@ -28,10 +29,6 @@ passed false false true d e h = absurd (omega arith)
 passed false false false true e h = absurd (omega arith)
 passed false false false false true h = absurd (omega arith)
 passed false false false false false h = (refl, refl, refl)
-
-neither : (a b : Bool) → (a || b) ≡ false → (a ≡ false) × (b ≡ false)
-neither true b e = absurd (false≢true (sym e))
-neither false b e = (refl, e)
 
 pub record Served (m : ℕ) (st : State) (mode : Mode) : Type 0 where
   pub ready : Ready m st

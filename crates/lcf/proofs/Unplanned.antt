@@ -1,35 +1,31 @@
 -- Where nobody claims a target, the planned stage changes nothing.
 use mathlib.Core.Path.{_≡_, refl, sym, ap, _∙_}
-use mathlib.Core.Bool.{Bool, true, false, not, _&&_, _||_, true≢false}
+use mathlib.Core.Bool.{Bool, true, false, not, _&&_, _||_}
 use mathlib.Core.List.{List}
 use Prim.Native.Nat.{ℕ, zero, suc, _+_, _<_, _≤_}
 use native.Mathlib.Nat.{mod-lt, zero-add}
 use native.Mathlib.Omega.{arith}
 use lib.Dec.{eqb, ltb}
 use lib.ListN.{getD}
-use borrow.Author.Tests.{eqb-true}
+use borrow.Author.Tests.{eqb-true, not-false}
 use Rattle.laws.specs.Steps.{steps}
 use Rattle.laws.specs.Sets.{has, asks, column}
 use Rattle.laws.proofs.Loops.{stays}
 use Rattle.laws.proofs.Members.{has-none}
 use Rattle.laws.proofs.Steps.{upto}
-use Rattle.laws.proofs.Tests.{arms}
+use Rattle.laws.proofs.Tests.{arms, neither}
 use Rattle.lcf.specs.Choice.{place, turned, chosen, choice}
 use Rattle.lcf.specs.Planned.{planner, give, planned}
 use Rattle.lcf.specs.Distributed.{anyLive}
 use Rattle.lcf.specs.declared.state.State.{State}
 use Rattle.lcf.specs.declared.work.Work.{Work}
 
-neither : (a b : Bool) → (not a || b) ≡ false → (a ≡ true) × (b ≡ false)
-neither true b e = (refl, e)
-neither false b e = absurd (true≢false e)
-
 empty-rows : (rows : List ℕ) (n : ℕ) → anyLive rows n ≡ false → (i : ℕ) → i < n → getD rows i 0 ≡ 0
 unfolding steps
 empty-rows rows zero e i h = absurd (omega arith)
 empty-rows rows (suc n) e i h =
-    let (here, before) = neither (eqb (getD rows n 0) 0) (anyLive rows n) e in
-    upto (λ i. getD rows i 0 ≡ 0) n (empty-rows rows n before) (eqb-true (getD rows n 0) 0 here) i h
+    let (here, before) = neither (not (eqb (getD rows n 0) 0)) (anyLive rows n) e in
+    upto (λ i. getD rows i 0 ≡ 0) n (empty-rows rows n before) (eqb-true (getD rows n 0) 0 (not-false _ here)) i h
 
 choice-below : (p : ℕ → Bool) (f : ℕ → ℕ) (n a : ℕ) → a < n → (k : ℕ) → chosen p f n a k < n
 unfolding steps
