@@ -4,16 +4,27 @@ use lcf::State;
 use lcf::Target;
 use libc::STDOUT_FILENO;
 
-pub fn text(bytes: &[u8]) {
+fn text(bytes: &[u8]) {
     io::write_all(STDOUT_FILENO, bytes);
 }
 
-pub fn number(x: u64) {
-    io::number::print_decimal(STDOUT_FILENO, x);
+pub fn letter(x: u8) {
+    text(&[x]);
 }
 
+pub fn number(x: u64) {
+    io::print_decimal(STDOUT_FILENO, x);
+}
+
+// The slot that is due at the states below.
+pub const SLOT: u32 = 7;
+
 // A state of n ports at offsets (i, j).
-pub fn at(n: usize, i: usize, j: usize, due: u32) -> State {
+pub fn at(n: usize, i: usize, j: usize) -> State {
+    due_at(n, i, j, SLOT)
+}
+
+pub fn due_at(n: usize, i: usize, j: usize, due: u32) -> State {
     State {
         ports: n,
         initiator: Initiator(i),
@@ -22,8 +33,12 @@ pub fn at(n: usize, i: usize, j: usize, due: u32) -> State {
     }
 }
 
-// A table whose first four rows are these.
-pub fn four(a: u16, b: u16, c: u16, d: u16) -> [u16; State::MOST] {
+// A table whose first four rows are the four digits of a hexadecimal number, row 0 the last.
+pub fn rows(digits: u16) -> [u16; State::MOST] {
+    let a = digits % 16;
+    let b = digits / 16 % 16;
+    let c = digits / 256 % 16;
+    let d = digits / 4096;
     [a, b, c, d, 0, 0, 0, 0, 0, 0, 0, 0, 0, 0, 0, 0]
 }
 
