@@ -3,40 +3,43 @@ use lcf::Mode;
 use lcf::State;
 use shown::SLOT;
 use shown::at;
-use shown::four;
+use shown::rows;
 
-fn show(label: &[u8], state: State, mode: Mode, req: [u16; State::MOST], pre: [u16; State::MOST]) {
-    let r = lcf::slot_on_tables(state, SLOT, mode, req, pre);
+// The rows of req and pre are a hexadecimal digit each.
+fn show(label: u8, state: State, mode: Mode, req: u16, pre: u16) {
+    let r = lcf::slot_on_tables(state, SLOT, mode, rows(req), rows(pre));
     let answer = r.answer;
     let sets = answer.sets;
-    shown::text(label);
+    shown::letter(label);
+    shown::sets(state.ports, sets);
+}
+
+// Case G, whose host 1 clears ben bit 0.
+fn show_disabled(label: u8, state: State, req: u16, ben: u16) {
+    let counted = lcf::counted(
+        state.ports,
+        0b11,
+        rows(ben),
+        rows(req),
+        State::empty_table(),
+    );
+    let req = counted.req;
+    let pre = counted.pre;
+    let r = lcf::slot_on_tables(state, SLOT, Mode::Central, req, pre);
+    let answer = r.answer;
+    let sets = answer.sets;
+    shown::letter(label);
     shown::sets(state.ports, sets);
 }
 
 fn main() {
-    let none = State::empty_table();
-    let b = four(3, 1, 6, 0);
-    show(b"A", at(1, 0, 0), Mode::Central, four(1, 0, 0, 0), none);
-    show(b"B", at(3, 0, 0), Mode::Central, b, none);
-    show(b"C", at(3, 2, 0), Mode::Central, b, none);
-    show(b"D", at(3, 1, 2), Mode::Central, four(5, 0, 6, 0), none);
-    show(b"E", at(3, 0, 0), Mode::Central, four(0, 3, 0, 0), none);
-    show(
-        b"F",
-        at(4, 3, 1),
-        Mode::Central,
-        four(9, 3, 0, 0),
-        four(8, 0, 0, 10),
-    );
-    let g = lcf::counted(2, 3, four(3, 2, 0, 0), four(1, 1, 0, 0), none);
-    let req = g.req;
-    show(b"G", at(2, 0, 0), Mode::Central, req, none);
-    show(b"H", at(3, 0, 0), Mode::Distributed(1), b, none);
-    show(
-        b"I",
-        at(3, 2, 0),
-        Mode::Distributed(2),
-        four(3, 7, 4, 0),
-        none,
-    );
+    show(b'A', at(1, 0, 0), Mode::Central, 0x1, 0);
+    show(b'B', at(3, 0, 0), Mode::Central, 0x613, 0);
+    show(b'C', at(3, 2, 0), Mode::Central, 0x613, 0);
+    show(b'D', at(3, 1, 2), Mode::Central, 0x605, 0);
+    show(b'E', at(3, 0, 0), Mode::Central, 0x030, 0);
+    show(b'F', at(4, 3, 1), Mode::Central, 0x0039, 0xa008);
+    show_disabled(b'G', at(2, 0, 0), 0x11, 0x23);
+    show(b'H', at(3, 0, 0), Mode::Distributed(1), 0x613, 0);
+    show(b'I', at(3, 2, 0), Mode::Distributed(2), 0x473, 0);
 }

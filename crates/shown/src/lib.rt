@@ -1,11 +1,18 @@
 // A slot and its answer as one line of text.
+ghost use mathlib.Core.Path.{_≡_};
+ghost use Rattle.frames.specs.Part.{mostPorts};
+ghost use Rattle.shown.specs.Slots.{stateAt, rowsOf};
 use lcf::Initiator;
 use lcf::State;
 use lcf::Target;
 use libc::STDOUT_FILENO;
 
-pub fn text(bytes: &[u8]) {
+fn text(bytes: &[u8]) {
     io::write_all(STDOUT_FILENO, bytes);
+}
+
+pub fn letter(x: u8) {
+    text(&[x]);
 }
 
 pub fn number(x: u64) {
@@ -16,11 +23,15 @@ pub fn number(x: u64) {
 pub const SLOT: u32 = 7;
 
 // A state of n ports at offsets (i, j).
-pub fn at(n: usize, i: usize, j: usize) -> State {
+pub fn at(n: usize, i: usize, j: usize) -> State
+    ensures { λ r. ⌜ r ≡ stateAt n i j 7 ⌝ }
+{
     due_at(n, i, j, SLOT)
 }
 
-pub fn due_at(n: usize, i: usize, j: usize, due: u32) -> State {
+pub fn due_at(n: usize, i: usize, j: usize, due: u32) -> State
+    ensures { λ r. ⌜ r ≡ stateAt n i j due ⌝ }
+{
     State {
         ports: n,
         initiator: Initiator(i),
@@ -29,8 +40,14 @@ pub fn due_at(n: usize, i: usize, j: usize, due: u32) -> State {
     }
 }
 
-// A table whose first four rows are these.
-pub fn four(a: u16, b: u16, c: u16, d: u16) -> [u16; State::MOST] {
+// A table whose first four rows are the four digits of a hexadecimal number, row 0 the last.
+pub fn rows(digits: u16) -> [u16; State::MOST]
+    ensures { λ r. ⌜ r ≡ rowsOf mostPorts digits ⌝ }
+{
+    let a = digits % 16;
+    let b = digits / 16 % 16;
+    let c = digits / 256 % 16;
+    let d = digits / 4096;
     [a, b, c, d, 0, 0, 0, 0, 0, 0, 0, 0, 0, 0, 0, 0]
 }
 

@@ -1,19 +1,19 @@
-// Small slots, each of which refuses a slip that cases A to I let pass: the label, the number, the rounds, the next
-// offsets, the next slot due and the sets.
+// Small slots, each of which refuses a slip that cases A to I let pass. A line has its label, the number, the rounds, the next
+// offsets, the next slot due and the sets. The rows of req, pre and ben are a hexadecimal digit each, row 0 the last.
 use lcf::Mode;
 use lcf::State;
 use shown::SLOT;
 use shown::at;
 use shown::due_at;
-use shown::four;
+use shown::rows;
 
 fn field(x: u64) {
-    shown::text(b" ");
+    shown::letter(b' ');
     shown::number(x);
 }
 
 fn show(
-    label: &[u8],
+    label: u64,
     state: State,
     slot: u32,
     mode: Mode,
@@ -24,7 +24,7 @@ fn show(
     let answer = r.answer;
     let sets = answer.sets;
     let next = r.state;
-    shown::text(label);
+    shown::number(label);
     field(answer.number as u64);
     field(answer.rounds as u64);
     field(next.initiator.0 as u64);
@@ -33,183 +33,185 @@ fn show(
     shown::sets(state.ports, sets);
 }
 
-fn plan(label: &[u8], state: State, req: [u16; State::MOST], pre: [u16; State::MOST]) {
-    show(label, state, SLOT, Mode::Central, req, pre);
-}
-
-fn serve(label: &[u8], state: State, req: [u16; State::MOST]) {
-    show(label, state, SLOT, Mode::Central, req, State::empty_table());
-}
-
-fn rounds(label: &[u8], state: State, limit: u32, req: [u16; State::MOST]) {
+fn plan(label: u64, n: usize, i: usize, j: usize, req: u16, pre: u16) {
     show(
         label,
-        state,
+        at(n, i, j),
         SLOT,
-        Mode::Distributed(limit),
-        req,
-        State::empty_table(),
+        Mode::Central,
+        rows(req),
+        rows(pre),
     );
 }
 
-fn hear(
-    label: &[u8],
-    n: usize,
-    heard: u16,
-    ben: [u16; State::MOST],
-    req: [u16; State::MOST],
-    pre: [u16; State::MOST],
-) {
-    let t = lcf::counted(n, heard, ben, req, pre);
-    let req = t.req;
-    let pre = t.pre;
-    plan(label, at(n, 0, 0), req, pre);
+fn serve(label: u64, n: usize, i: usize, j: usize, req: u16) {
+    show(label, at(n, i, j), SLOT, Mode::Central, rows(req), rows(0));
 }
 
-fn edge(label: &[u8], state: State, slot: u32, mode: Mode) {
+fn rounds(label: u64, n: usize, i: usize, j: usize, limit: u32, req: u16) {
     show(
         label,
-        state,
+        at(n, i, j),
+        SLOT,
+        Mode::Distributed(limit),
+        rows(req),
+        rows(0),
+    );
+}
+
+fn hear(label: u64, n: usize, heard: u16, ben: u16, req: u16, pre: u16) {
+    let t = lcf::counted(n, heard, rows(ben), rows(req), rows(pre));
+    let req = t.req;
+    let pre = t.pre;
+    show(label, at(n, 0, 0), SLOT, Mode::Central, req, pre);
+}
+
+fn number(label: u64, due: u32, slot: u32) {
+    show(
+        label,
+        due_at(3, 1, 2, due),
         slot,
-        mode,
-        four(1, 0, 0, 0),
-        State::empty_table(),
+        Mode::Central,
+        rows(1),
+        rows(0),
     );
 }
 
 fn planned() {
-    plan(
-        b"claims-rotate",
-        at(2, 0, 0),
-        four(0, 0, 0, 0),
-        four(2, 2, 0, 0),
-    );
-    plan(
-        b"claims-from-I",
-        at(3, 0, 1),
-        four(0, 0, 0, 0),
-        four(4, 0, 4, 0),
-    );
-    plan(
-        b"claims-less-J",
-        at(2, 0, 1),
-        four(0, 0, 0, 0),
-        four(2, 2, 0, 0),
-    );
-    plan(
-        b"planner-leaves",
-        at(2, 0, 0),
-        four(0, 2, 0, 0),
-        four(0, 1, 0, 0),
-    );
-    plan(
-        b"given-leaves",
-        at(2, 0, 0),
-        four(1, 0, 0, 0),
-        four(0, 1, 0, 0),
-    );
-    plan(
-        b"dropped-stays",
-        at(2, 0, 0),
-        four(1, 0, 0, 0),
-        four(2, 2, 0, 0),
-    );
+    // A target's rotation of its claimants starts at I only for target J; the first claimant is kept.
+    plan(1, 2, 0, 0, 0, 0x22);
+    // It starts at (I + t - J), not at (J + t - I).
+    plan(2, 3, 0, 1, 0, 0x404);
+    // Nor at (I + t).
+    plan(3, 2, 0, 1, 0, 0x22);
+    // An initiator with a planned target asks for no more.
+    plan(4, 2, 0, 0, 0x20, 0x10);
+    // A target that is given is asked for no more.
+    plan(5, 2, 0, 0, 0x1, 0x10);
+    // An initiator whose claims were all dropped stays in.
+    plan(6, 2, 0, 0, 0x1, 0x22);
 }
 
 fn central() {
-    serve(b"counts-fall", at(3, 0, 0), four(6, 4, 2, 0));
-    serve(b"first-of-equals", at(3, 0, 0), four(4, 4, 0, 0));
-    serve(b"ties-move", at(3, 0, 0), four(2, 0, 2, 0));
-    serve(b"favour-moves", at(2, 0, 0), four(2, 2, 0, 0));
-    serve(b"targets-from-J", at(2, 0, 1), four(1, 1, 0, 0));
-    serve(b"favoured-first", at(2, 0, 0), four(3, 1, 0, 0));
-    serve(b"fewest-first", at(3, 0, 0), four(0, 3, 1, 0));
-    serve(b"every-target", at(2, 0, 0), four(0, 2, 0, 0));
-    serve(b"bits-above-n", at(3, 0, 0), four(0, 9, 1, 0));
+    // Counts fall as targets go.
+    serve(7, 3, 0, 0, 0x246);
+    // Among equals the first in the rotation wins.
+    serve(8, 3, 0, 0, 0x44);
+    // The rotation of the ties moves with the target.
+    serve(9, 3, 0, 0, 0x202);
 }
 
-fn distributed() {
-    rounds(b"grant-rotation-moves", at(2, 0, 0), 1, four(2, 2, 0, 0));
-    rounds(b"grant-start-plus-I", at(3, 0, 1), 1, four(4, 4, 0, 0));
-    rounds(b"grant-start-minus-J", at(2, 0, 1), 1, four(1, 1, 0, 0));
-    rounds(b"grant-fewest-first", at(2, 0, 0), 1, four(2, 3, 0, 0));
-    rounds(b"accept-rotation-moves", at(2, 0, 0), 1, four(0, 3, 0, 0));
-    rounds(b"accept-start-plus-J", at(3, 1, 0), 1, four(3, 0, 0, 0));
-    rounds(b"accept-start-minus-I", at(2, 1, 0), 1, four(3, 0, 0, 0));
-    rounds(b"accept-fewest-first", at(3, 0, 0), 1, four(6, 0, 5, 0));
-    rounds(b"own-matches-wait", at(3, 0, 0), 1, four(2, 3, 1, 0));
-    rounds(b"favoured-pair-first", at(2, 0, 0), 1, four(1, 0, 0, 0));
-    rounds(b"limit-allows-one", at(3, 0, 0), 1, four(6, 0, 6, 0));
-    rounds(b"second-round", at(3, 0, 0), 2, four(6, 0, 6, 0));
-    rounds(b"no-third-round", at(3, 0, 0), 16, four(6, 0, 6, 0));
+fn favour() {
+    // So does the favoured initiator.
+    serve(10, 2, 0, 0, 0x22);
+    // The targets are served from J on.
+    serve(11, 2, 0, 1, 0x11);
+    // The favoured initiator wins whatever it asks.
+    serve(12, 2, 0, 0, 0x13);
+    // Otherwise the one with the fewest requests wins.
+    serve(13, 3, 0, 0, 0x130);
+    // Not only the favoured pair is joined.
+    serve(14, 2, 0, 0, 0x20);
+    // Bits at or above n do not count.
+    serve(15, 3, 0, 0, 0x190);
+}
+
+fn grants() {
+    // A grant's rotation moves with the target; the first of equals is granted.
+    rounds(16, 2, 0, 0, 1, 0x22);
+    // It starts at (I + t - J), not at (J + t - I).
+    rounds(17, 3, 0, 1, 1, 0x44);
+    // Nor at (I + t).
+    rounds(18, 2, 0, 1, 1, 0x11);
+    // The asker with the fewest requests is granted.
+    rounds(19, 2, 0, 0, 1, 0x32);
+}
+
+fn accepts() {
+    // An accept's rotation moves with the initiator; the first of equals is accepted.
+    rounds(20, 2, 0, 0, 1, 0x30);
+    // It starts at (J + i - I), not at (I + i - J).
+    rounds(21, 3, 1, 0, 1, 0x3);
+    // Nor at (J + i).
+    rounds(22, 2, 1, 0, 1, 0x3);
+    // The target with the fewest askers at the round's start is accepted.
+    rounds(23, 3, 0, 0, 1, 0x506);
+}
+
+fn rounds_run() {
+    // A round's matches free nobody within it.
+    rounds(24, 3, 0, 0, 1, 0x132);
+    // The favoured pair is joined before any round.
+    rounds(25, 2, 0, 0, 1, 0x1);
+    // The limit ends the rounds.
+    rounds(26, 3, 0, 0, 1, 0x606);
+    // A later round works as the first.
+    rounds(27, 3, 0, 0, 2, 0x606);
+    // Where no request is live no round is run or counted.
+    rounds(28, 3, 0, 0, 16, 0x606);
 }
 
 fn heard() {
-    hear(
-        b"unheard",
-        2,
-        1,
-        four(3, 0, 0, 0),
-        four(1, 1, 0, 0),
-        four(0, 0, 0, 0),
-    );
-    hear(
-        b"disabled-votes",
-        3,
-        7,
-        four(3, 6, 7, 0),
-        four(1, 2, 4, 0),
-        four(0, 0, 0, 0),
-    );
-    hear(
-        b"disabled-plan",
-        2,
-        3,
-        four(3, 2, 0, 0),
-        four(0, 0, 0, 0),
-        four(2, 2, 0, 0),
-    );
+    // An unheard host asks for nothing and has no vote.
+    hear(29, 2, 1, 0x3, 0x11, 0);
+    // A disabled initiator still has its vote.
+    hear(30, 3, 7, 0x763, 0x421, 0);
+    // It plans nothing.
+    hear(31, 2, 3, 0x23, 0, 0x22);
 }
 
-fn edges() {
-    edge(b"served", due_at(3, 0, 0, 5), 5, Mode::Central);
-    edge(b"resent", due_at(3, 1, 0, 6), 5, Mode::Central);
-    edge(b"early", due_at(3, 1, 0, 6), 7, Mode::Central);
-    edge(b"stale-by-1", due_at(3, 1, 2, 0), 4294967295, Mode::Central);
-    edge(
-        b"stale-by-half",
-        due_at(3, 1, 2, 0),
-        2147483648,
-        Mode::Central,
-    );
-    edge(
-        b"early-by-half",
-        due_at(3, 1, 2, 0),
-        2147483647,
-        Mode::Central,
-    );
-    edge(
-        b"due-wraps",
-        due_at(3, 1, 2, 4294967295),
-        4294967295,
-        Mode::Central,
-    );
-    edge(b"I-wraps", at(3, 2, 0), SLOT, Mode::Central);
-    edge(b"J-wraps", at(3, 2, 2), SLOT, Mode::Central);
-    edge(b"no-ports", at(0, 0, 0), SLOT, Mode::Central);
-    edge(b"17-ports", at(17, 0, 0), SLOT, Mode::Central);
-    edge(b"16-ports", at(16, 0, 0), SLOT, Mode::Central);
-    edge(b"I-too-high", at(3, 3, 0), SLOT, Mode::Central);
-    edge(b"J-too-high", at(3, 0, 3), SLOT, Mode::Central);
-    edge(b"limit-0", at(3, 0, 0), SLOT, Mode::Distributed(0));
-    edge(b"limit-17", at(3, 0, 0), SLOT, Mode::Distributed(17));
-    edge(b"limit-16", at(3, 0, 0), SLOT, Mode::Distributed(16));
+fn slot_numbers() {
+    // Slot 5 when 5 is due.
+    number(32, 5, 5);
+    // The same again: number 3, and the state stays.
+    number(33, 6, 5);
+    // Slot 7 when 6 is due: number 4.
+    number(34, 6, 7);
+    // The difference is modulo 2^32.
+    number(35, 0, 4294967295);
+    // 2147483648 behind is stale,
+    number(36, 0, 2147483648);
+    // and one more is early.
+    number(37, 0, 2147483647);
+    // After 4294967295 comes 0.
+    number(38, 4294967295, 4294967295);
+}
+
+fn offsets() {
+    // (2, 0) goes to (0, 1),
+    serve(39, 3, 2, 0, 0x1);
+    // and (2, 2) to (0, 0).
+    serve(40, 3, 2, 2, 0x1);
+    // An offset at n: number 2.
+    serve(41, 3, 3, 0, 0x1);
+    // So for J.
+    serve(42, 3, 0, 3, 0x1);
+    // Ports outside 1 to 16: number 1.
+    serve(43, 0, 0, 0, 0x1);
+    // 17 are too many,
+    serve(44, 17, 0, 0, 0x1);
+    // and 16 are taken.
+    serve(45, 16, 0, 0, 0x1);
+}
+
+fn limits() {
+    // A limit outside 1 to 16: number 5.
+    rounds(46, 3, 0, 0, 0, 0x1);
+    // 17 is too many,
+    rounds(47, 3, 0, 0, 17, 0x1);
+    // and 16 is taken.
+    rounds(48, 3, 0, 0, 16, 0x1);
 }
 
 fn main() {
     planned();
     central();
-    distributed();
+    favour();
+    grants();
+    accepts();
+    rounds_run();
     heard();
-    edges();
+    slot_numbers();
+    offsets();
+    limits();
 }
