@@ -11,11 +11,12 @@ use crate::state::Target;
 use crate::work::Work;
 ghost use mathlib.Core.Path.{_≡_};
 ghost use Prim.Native.Nat.{_<_, _≤_};
+ghost use Rattle.frames.specs.Part.{mostPorts};
 ghost use Rattle.lcf.specs.Ready.{Ready};
 ghost use Rattle.lcf.specs.Central.{winner, serve, central};
 
 fn winner(live: [u16; State::MOST], n: usize, t: Target, a: Initiator) -> Initiator
-    requires { ⌜ (n ≤ 16) × (t .0 < n) × (a .0 < n) ⌝ }
+    requires { ⌜ (n ≤ mostPorts) × (t .0 < n) × (a .0 < n) ⌝ }
     ensures { λ r. ⌜ (r .0 ≡ winner live n (t .0) (a .0)) × (r .0 < n) ⌝ }
 {
     let at = a.0;
@@ -27,7 +28,7 @@ fn winner(live: [u16; State::MOST], n: usize, t: Target, a: Initiator) -> Initia
 }
 
 fn serve(state: State, k: usize, work: Work) -> Work
-    requires { ⌜ (Ready 16 state) × (k < state .ports) ⌝ }
+    requires { ⌜ (Ready mostPorts state) × (k < state .ports) ⌝ }
     ensures { λ r. ⌜ r ≡ serve state k work ⌝ }
 {
     let t = Target(wrapped(state.target.0 + k, state.ports));
@@ -37,7 +38,7 @@ fn serve(state: State, k: usize, work: Work) -> Work
 }
 
 pub(crate) fn central(state: State, work: Work) -> Work
-    requires { ⌜ Ready 16 state ⌝ }
+    requires { ⌜ Ready mostPorts state ⌝ }
     ensures { λ r. ⌜ r ≡ central state work (state .ports) ⌝ }
 {
     let n = state.ports;

@@ -7,6 +7,7 @@ use crate::state::Target;
 ghost use mathlib.Core.Path.{_≡_};
 ghost use Prim.Native.Nat.{_+_, _%_, _<_, _≤_};
 ghost use lib.ListN.{getD};
+ghost use Rattle.frames.specs.Part.{mostPorts};
 ghost use Rattle.laws.specs.Sets.{has};
 ghost use Rattle.lcf.specs.Ready.{Ready};
 ghost use Rattle.lcf.specs.Choice.{place, turned, better, choice};
@@ -22,7 +23,7 @@ pub(crate) fn wrapped(x: usize, n: usize) -> usize
 
 // (from + x - y) mod n.
 fn turned(n: usize, from: usize, x: usize, y: usize) -> usize
-    requires { ⌜ (n ≤ 16) × (from < n) × (x < n) × (y < n) ⌝ }
+    requires { ⌜ (n ≤ mostPorts) × (from < n) × (x < n) × (y < n) ⌝ }
     ensures { λ r. ⌜ (r ≡ turned n from x y) × (r < n) ⌝ }
 {
     wrapped(wrapped(from + n - y, n) + x, n)
@@ -30,7 +31,7 @@ fn turned(n: usize, from: usize, x: usize, y: usize) -> usize
 
 // Where target t's rotation of the initiators starts.
 pub(crate) fn first_initiator(state: State, t: Target) -> Initiator
-    requires { ⌜ (Ready 16 state) × (t .0 < state .ports) ⌝ }
+    requires { ⌜ (Ready mostPorts state) × (t .0 < state .ports) ⌝ }
     ensures { λ r. ⌜ (r .0 ≡ turned (state .ports) (state .initiator .0) (t .0) (state .target .0)) × (r .0 < state .ports) ⌝ }
 {
     Initiator(turned(state.ports, state.initiator.0, t.0, state.target.0))
@@ -38,7 +39,7 @@ pub(crate) fn first_initiator(state: State, t: Target) -> Initiator
 
 // Where initiator i's rotation of the targets starts.
 pub(crate) fn first_target(state: State, i: Initiator) -> Target
-    requires { ⌜ (Ready 16 state) × (i .0 < state .ports) ⌝ }
+    requires { ⌜ (Ready mostPorts state) × (i .0 < state .ports) ⌝ }
     ensures { λ r. ⌜ (r .0 ≡ turned (state .ports) (state .target .0) (i .0) (state .initiator .0)) × (r .0 < state .ports) ⌝ }
 {
     Target(turned(state.ports, state.target.0, i.0, state.initiator.0))
@@ -52,7 +53,7 @@ fn contend(
     k: usize,
     best: usize,
 ) -> usize
-    requires { ⌜ (n ≤ 16) × (from < n) × (k < n) × (best < n) ⌝ }
+    requires { ⌜ (n ≤ mostPorts) × (from < n) × (k < n) × (best < n) ⌝ }
     ensures { λ r. ⌜ (r ≡ better (has among) (λ x. getD (now (numbers .entry)) x 0) (place n from k) best) × (r < n) ⌝ }
 {
     let x = wrapped(from + k, n);
@@ -71,7 +72,7 @@ pub struct Scan {
 }
 
 fn rotated(among: u16, n: usize, from: usize) -> u32
-    requires { ⌜ (n ≤ 16) × (from < n) ⌝ }
+    requires { ⌜ (n ≤ mostPorts) × (from < n) ⌝ }
     ensures { λ r. ⌜ Turned (has among) n from 0 r ⌝ }
 {
     let s = clip(among, n);
@@ -81,7 +82,7 @@ fn rotated(among: u16, n: usize, from: usize) -> u32
 
 // To the next member at once: who does not ask costs no time.
 fn next(among: u16, numbers: &[u32; State::MOST], n: usize, from: usize, scan: Scan) -> Scan
-    requires { ⌜ (n ≤ 16) × (from < n) × (scan .left ≡ 0 → ⊥) × (Scanned (has among) (λ x. getD (now numbers) x 0) n from scan) ⌝ }
+    requires { ⌜ (n ≤ mostPorts) × (from < n) × (scan .left ≡ 0 → ⊥) × (Scanned (has among) (λ x. getD (now numbers) x 0) n from scan) ⌝ }
     ensures { λ r. ⌜ (r .left < scan .left) × (Scanned (has among) (λ x. getD (now (numbers .entry)) x 0) n from r) ⌝ }
 {
     let gap = u32::trailing_zeros(scan.left);
@@ -94,7 +95,7 @@ fn next(among: u16, numbers: &[u32; State::MOST], n: usize, from: usize, scan: S
 }
 
 pub(crate) fn choose(among: u16, numbers: [u32; State::MOST], n: usize, from: usize) -> usize
-    requires { ⌜ (n ≤ 16) × (from < n) ⌝ }
+    requires { ⌜ (n ≤ mostPorts) × (from < n) ⌝ }
     ensures { λ r. ⌜ (r ≡ choice (has among) (λ x. getD numbers x 0) n from) × (r < n) ⌝ }
 {
     let mut scan = Scan {

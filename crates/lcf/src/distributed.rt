@@ -16,6 +16,7 @@ use crate::work::Run;
 use crate::work::Work;
 ghost use mathlib.Core.Path.{_≡_};
 ghost use Prim.Native.Nat.{_+_, _<_, _≤_};
+ghost use Rattle.frames.specs.Part.{mostPorts};
 ghost use Rattle.lcf.specs.Ready.{Ready};
 ghost use Rattle.lcf.specs.Distributed.{
   askers,
@@ -27,7 +28,7 @@ ghost use Rattle.lcf.specs.Distributed.{
 ghost use Rattle.lcf.specs.Offers.{granted, Offers, accept};
 
 fn askers(state: State, live: [u16; State::MOST]) -> [u16; State::MOST]
-    requires { ⌜ Ready 16 state ⌝ }
+    requires { ⌜ Ready mostPorts state ⌝ }
     ensures { λ r. ⌜ r ≡ askers state live ⌝ }
 {
     let n = state.ports;
@@ -39,7 +40,7 @@ fn askers(state: State, live: [u16; State::MOST]) -> [u16; State::MOST]
 }
 
 fn grant(state: State, asking: u16, counts: [u32; State::MOST], t: Target) -> Initiator
-    requires { ⌜ (Ready 16 state) × (t .0 < state .ports) ⌝ }
+    requires { ⌜ (Ready mostPorts state) × (t .0 < state .ports) ⌝ }
     ensures { λ r. ⌜ (r .0 ≡ granted state asking counts (t .0)) × (r .0 < state .ports) ⌝ }
 {
     let from = first_initiator(state, t);
@@ -47,7 +48,7 @@ fn grant(state: State, asking: u16, counts: [u32; State::MOST], t: Target) -> In
 }
 
 fn offers(state: State, live: [u16; State::MOST], asked: [u16; State::MOST]) -> [u16; State::MOST]
-    requires { ⌜ (Ready 16 state) × (asked ≡ askers state live) ⌝ }
+    requires { ⌜ (Ready mostPorts state) × (asked ≡ askers state live) ⌝ }
     ensures { λ r. ⌜ Offers state live r ⌝ }
 {
     let n = state.ports;
@@ -68,7 +69,7 @@ fn accept(
     i: Initiator,
     current: Round,
 ) -> Round
-    requires { ⌜ (Ready 16 state) × (i .0 < state .ports) ⌝ }
+    requires { ⌜ (Ready mostPorts state) × (i .0 < state .ports) ⌝ }
     ensures { λ r. ⌜ r ≡ accept state counts offered (i .0) current ⌝ }
 {
     let from = first_target(state, i);
@@ -86,7 +87,7 @@ fn accept(
 
 // All goes by the requests as the round began.
 fn round(state: State, work: Work) -> Round
-    requires { ⌜ Ready 16 state ⌝ }
+    requires { ⌜ Ready mostPorts state ⌝ }
     ensures { λ r. ⌜ r ≡ round state work ⌝ }
 {
     let n = state.ports;
@@ -105,7 +106,7 @@ fn round(state: State, work: Work) -> Round
 }
 
 pub(crate) fn any_live(live: [u16; State::MOST], n: usize) -> bool
-    requires { ⌜ n ≤ 16 ⌝ }
+    requires { ⌜ n ≤ mostPorts ⌝ }
     ensures { λ r. ⌜ r ≡ anyLive live n ⌝ }
 {
     let mut found = false;
@@ -116,7 +117,7 @@ pub(crate) fn any_live(live: [u16; State::MOST], n: usize) -> bool
 }
 
 fn one_more(state: State, run: Run) -> Run
-    requires { ⌜ (Ready 16 state) × (run .rounds < 16) ⌝ }
+    requires { ⌜ (Ready mostPorts state) × (run .rounds < mostPorts) ⌝ }
     ensures { λ r. ⌜ (r ≡ oneMore state run) × (r .rounds ≤ run .rounds + 1) ⌝ }
 {
     let work = run.work;
@@ -135,7 +136,7 @@ fn one_more(state: State, run: Run) -> Run
 }
 
 pub(crate) fn distributed(state: State, limit: u32, work: Work) -> Run
-    requires { ⌜ (Ready 16 state) × (limit ≤ 16) ⌝ }
+    requires { ⌜ (Ready mostPorts state) × (limit ≤ mostPorts) ⌝ }
     ensures { λ r. ⌜ r ≡ distributed state limit work ⌝ }
 {
     let mut run = Run {

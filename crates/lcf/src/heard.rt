@@ -6,6 +6,7 @@ ghost use mathlib.Core.Bool.{cond};
 ghost use Prim.Native.Nat.{min, _<_, _≤_};
 ghost use lib.Bits.{bitAnd};
 ghost use lib.ListN.{getD};
+ghost use Rattle.frames.specs.Part.{mostPorts};
 ghost use Rattle.laws.specs.Sets.{has, tabled};
 ghost use Rattle.lcf.specs.Heard.{Present, tables};
 
@@ -16,7 +17,7 @@ pub struct Tables {
 }
 
 fn at_most(ports: usize) -> usize
-    ensures { λ r. do ⌜ r ≡ min ports (← ⟦State::MOST⟧ .entry) ⌝ }
+    ensures { λ r. ⌜ r ≡ min ports mostPorts ⌝ }
 {
     if ports < State::MOST {
         ports
@@ -27,14 +28,14 @@ fn at_most(ports: usize) -> usize
 
 // Without those whom host h disables, if it is heard.
 fn enabled(s: u16, heard: u16, ben: u16, h: usize) -> u16
-    requires { ⌜ h < 16 ⌝ }
+    requires { ⌜ h < mostPorts ⌝ }
     ensures { λ r. ⌜ r ≡ cond (has heard h) (bitAnd s ben) s ⌝ }
 {
     if holds(heard, h) { s & ben } else { s }
 }
 
 fn present(n: usize, heard: u16, ben: [u16; State::MOST]) -> u16
-    requires { ⌜ n ≤ 16 ⌝ }
+    requires { ⌜ n ≤ mostPorts ⌝ }
     ensures { λ r. ⌜ Present n heard ben r ⌝ }
 {
     let mut s = heard;
@@ -45,15 +46,15 @@ fn present(n: usize, heard: u16, ben: [u16; State::MOST]) -> u16
 }
 
 fn row_of(present: u16, row: u16, i: usize) -> u16
-    requires { ⌜ i < 16 ⌝ }
+    requires { ⌜ i < mostPorts ⌝ }
     ensures { λ r. ⌜ r ≡ cond (has present i) row 0 ⌝ }
 {
     if holds(present, i) { row } else { 0 }
 }
 
 fn rows_of(n: usize, present: u16, rows: [u16; State::MOST]) -> [u16; State::MOST]
-    requires { ⌜ n ≤ 16 ⌝ }
-    ensures { λ r. ⌜ r ≡ tabled 16 (λ i. cond (has present i) (getD rows i 0) 0) n ⌝ }
+    requires { ⌜ n ≤ mostPorts ⌝ }
+    ensures { λ r. ⌜ r ≡ tabled mostPorts (λ i. cond (has present i) (getD rows i 0) 0) n ⌝ }
 {
     let mut table = State::empty_table();
     for i in 0..n {

@@ -9,11 +9,12 @@ use crate::work::Work;
 ghost use mathlib.Core.Path.{_≡_};
 ghost use mathlib.Core.List.{map};
 ghost use Prim.Native.Nat.{_<_};
+ghost use Rattle.frames.specs.Part.{mostPorts};
 ghost use Rattle.laws.specs.Sets.{without};
 ghost use Rattle.lcf.specs.Join.{join, joinLive};
 
 fn clear_column(rows: [u16; State::MOST], t: Target) -> [u16; State::MOST]
-    requires { ⌜ t .0 < 16 ⌝ }
+    requires { ⌜ t .0 < mostPorts ⌝ }
     ensures { λ r. ⌜ r ≡ map (λ row. without row (t .0)) rows ⌝ }
 {
     let mut left = State::empty_table();
@@ -24,7 +25,7 @@ fn clear_column(rows: [u16; State::MOST], t: Target) -> [u16; State::MOST]
 }
 
 pub(crate) fn join(work: Work, i: Initiator, t: Target) -> Work
-    requires { ⌜ (i .0 < 16) × (t .0 < 16) ⌝ }
+    requires { ⌜ (i .0 < mostPorts) × (t .0 < mostPorts) ⌝ }
     ensures { λ r. ⌜ r ≡ join work (i .0) (t .0) ⌝ }
 {
     let at = i.0;
@@ -39,7 +40,7 @@ pub(crate) fn join(work: Work, i: Initiator, t: Target) -> Work
 }
 
 pub(crate) fn join_live(work: Work, i: Initiator, t: Target) -> Work
-    requires { ⌜ (i .0 < 16) × (t .0 < 16) ⌝ }
+    requires { ⌜ (i .0 < mostPorts) × (t .0 < mostPorts) ⌝ }
     ensures { λ r. ⌜ r ≡ joinLive work (i .0) (t .0) ⌝ }
 {
     let at = i.0;

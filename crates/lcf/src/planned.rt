@@ -11,12 +11,13 @@ use crate::state::Target;
 use crate::work::Work;
 ghost use mathlib.Core.Path.{_≡_};
 ghost use Prim.Native.Nat.{_<_};
+ghost use Rattle.frames.specs.Part.{mostPorts};
 ghost use Rattle.lcf.specs.Ready.{Ready};
 ghost use Rattle.lcf.specs.Planned.{planner, give, planned};
 
 // Every claimant counts as equal, so the first in the rotation is chosen.
 fn planner(state: State, pre: [u16; State::MOST], t: Target) -> Initiator
-    requires { ⌜ (Ready 16 state) × (t .0 < state .ports) ⌝ }
+    requires { ⌜ (Ready mostPorts state) × (t .0 < state .ports) ⌝ }
     ensures { λ r. ⌜ (r .0 ≡ planner state pre (t .0)) × (r .0 < state .ports) ⌝ }
 {
     let from = first_initiator(state, t);
@@ -29,7 +30,7 @@ fn planner(state: State, pre: [u16; State::MOST], t: Target) -> Initiator
 }
 
 fn give(state: State, pre: [u16; State::MOST], t: Target, work: Work) -> Work
-    requires { ⌜ (Ready 16 state) × (t .0 < state .ports) ⌝ }
+    requires { ⌜ (Ready mostPorts state) × (t .0 < state .ports) ⌝ }
     ensures { λ r. ⌜ r ≡ give state pre (t .0) work ⌝ }
 {
     let i = planner(state, pre, t);
@@ -42,7 +43,7 @@ fn give(state: State, pre: [u16; State::MOST], t: Target, work: Work) -> Work
 }
 
 fn give_all(state: State, pre: [u16; State::MOST], work: Work) -> Work
-    requires { ⌜ Ready 16 state ⌝ }
+    requires { ⌜ Ready mostPorts state ⌝ }
     ensures { λ r. ⌜ r ≡ planned state pre work ⌝ }
 {
     let n = state.ports;
@@ -55,7 +56,7 @@ fn give_all(state: State, pre: [u16; State::MOST], work: Work) -> Work
 
 // Most slots have no claim, and then no target is looked at.
 pub(crate) fn planned(state: State, pre: [u16; State::MOST], work: Work) -> Work
-    requires { ⌜ Ready 16 state ⌝ }
+    requires { ⌜ Ready mostPorts state ⌝ }
     ensures { λ r. ⌜ r ≡ planned state pre work ⌝ }
 {
     if any_live(pre, state.ports) {

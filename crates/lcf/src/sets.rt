@@ -4,25 +4,26 @@ use crate::state::Target;
 ghost use mathlib.Core.Path.{_≡_};
 ghost use mathlib.Core.Bool.{cond};
 ghost use Prim.Native.Nat.{_%_, _^_, _<_, _≤_};
+ghost use Rattle.frames.specs.Part.{mostPorts};
 ghost use Rattle.laws.specs.Sets.{has, with, without, column, sizes};
 ghost use Rattle.lcf.specs.Slot.{within};
 
 pub(crate) fn holds(s: u16, k: usize) -> bool
-    requires { ⌜ k < 16 ⌝ }
+    requires { ⌜ k < mostPorts ⌝ }
     ensures { λ r. ⌜ r ≡ has s k ⌝ }
 {
     (s >> k) % 2 == 1
 }
 
 pub(crate) fn put(s: u16, k: usize) -> u16
-    requires { ⌜ k < 16 ⌝ }
+    requires { ⌜ k < mostPorts ⌝ }
     ensures { λ r. ⌜ r ≡ with s k ⌝ }
 {
     s | (1 << k)
 }
 
 pub(crate) fn clear(s: u16, k: usize) -> u16
-    requires { ⌜ k < 16 ⌝ }
+    requires { ⌜ k < mostPorts ⌝ }
     ensures { λ r. ⌜ r ≡ without s k ⌝ }
 {
     s - (s & (1 << k))
@@ -30,14 +31,14 @@ pub(crate) fn clear(s: u16, k: usize) -> u16
 
 // The row's bits below n.
 pub(crate) fn clip(row: u16, n: usize) -> u16
-    requires { ⌜ n ≤ 16 ⌝ }
+    requires { ⌜ n ≤ mostPorts ⌝ }
     ensures { λ r. ⌜ r ≡ row % 2 ^ n ⌝ }
 {
     (row as u32 % (1 << n)) as u16
 }
 
 pub(crate) fn within(n: usize, rows: [u16; State::MOST]) -> [u16; State::MOST]
-    requires { do ⌜ n ≤ (← ⟦State::MOST⟧) ⌝ }
+    requires { ⌜ n ≤ mostPorts ⌝ }
     ensures { λ r. ⌜ r ≡ within n rows ⌝ }
 {
     let mut table = State::empty_table();
@@ -49,14 +50,14 @@ pub(crate) fn within(n: usize, rows: [u16; State::MOST]) -> [u16; State::MOST]
 
 // s with i, if the row has t.
 pub(crate) fn gather(s: u16, row: u16, i: usize, t: Target) -> u16
-    requires { ⌜ (i < 16) × (t .0 < 16) ⌝ }
+    requires { ⌜ (i < mostPorts) × (t .0 < mostPorts) ⌝ }
     ensures { λ r. ⌜ r ≡ cond (has row (t .0)) (with s i) s ⌝ }
 {
     if holds(row, t.0) { put(s, i) } else { s }
 }
 
 pub(crate) fn column(rows: [u16; State::MOST], n: usize, t: Target) -> u16
-    requires { do ⌜ (n ≤ (← ⟦State::MOST⟧)) × (t .0 < n) ⌝ }
+    requires { ⌜ (n ≤ mostPorts) × (t .0 < n) ⌝ }
     ensures { λ r. ⌜ r ≡ column rows n (t .0) ⌝ }
 {
     let mut s = 0;

@@ -14,6 +14,7 @@ use crate::work::Stepped;
 use crate::work::Work;
 ghost use mathlib.Core.Path.{_≡_};
 ghost use mathlib.Core.Bool.{false};
+ghost use Rattle.frames.specs.Part.{mostPorts};
 ghost use Rattle.lcf.specs.Ready.{Ready};
 ghost use Rattle.lcf.specs.Advance.{advance};
 ghost use Rattle.lcf.specs.Slot.{
@@ -29,7 +30,7 @@ ghost use Rattle.lcf.specs.Slot.{
 
 // Rule 7.
 fn advance(state: State) -> State
-    requires { ⌜ Ready 16 state ⌝ }
+    requires { ⌜ Ready mostPorts state ⌝ }
     ensures { λ r. ⌜ r ≡ advance state ⌝ }
 {
     let n = state.ports;
@@ -54,7 +55,7 @@ fn advance(state: State) -> State
 
 // Rules 3 and 4.
 fn start(state: State, req: [u16; State::MOST], pre: [u16; State::MOST]) -> Work
-    requires { ⌜ Ready 16 state ⌝ }
+    requires { ⌜ Ready mostPorts state ⌝ }
     ensures { λ r. ⌜ r ≡ start state req pre ⌝ }
 {
     let work = Work {
@@ -66,7 +67,7 @@ fn start(state: State, req: [u16; State::MOST], pre: [u16; State::MOST]) -> Work
 
 // Rules 5 and 6.
 fn serve_mode(state: State, mode: Mode, work: Work) -> Run
-    requires { ⌜ (Ready 16 state) × (wrongLimit 16 mode ≡ false) ⌝ }
+    requires { ⌜ (Ready mostPorts state) × (wrongLimit mostPorts mode ≡ false) ⌝ }
     ensures { λ r. ⌜ r ≡ serveMode state mode work ⌝ }
 {
     match mode {
@@ -86,7 +87,7 @@ fn behind(state: State, slot: u32) -> u32
 }
 
 fn wrong_limit(mode: Mode) -> bool
-    ensures { λ r. ⌜ r ≡ wrongLimit 16 mode ⌝ }
+    ensures { λ r. ⌜ r ≡ wrongLimit mostPorts mode ⌝ }
 {
     match mode {
         Mode::Central => false,
@@ -96,7 +97,7 @@ fn wrong_limit(mode: Mode) -> bool
 
 // The numbers 1 to 5, or 0 if the slot is to be served.
 pub fn due_number(state: State, slot: u32, mode: Mode) -> u8
-    ensures { λ r. do ⌜ r ≡ dueNumber (← ⟦State::MOST⟧ .entry) state slot mode ⌝ }
+    ensures { λ r. ⌜ r ≡ dueNumber mostPorts state slot mode ⌝ }
 {
     if (state.ports < 1) | (State::MOST < state.ports) {
         return 1;
@@ -118,7 +119,7 @@ pub fn due_number(state: State, slot: u32, mode: Mode) -> u8
 }
 
 fn declined(state: State, number: u8) -> Stepped
-    ensures { λ r. do ⌜ r ≡ declined (← ⟦State::MOST⟧ .entry) state number ⌝ }
+    ensures { λ r. ⌜ r ≡ declined mostPorts state number ⌝ }
 {
     Stepped {
         state,
@@ -131,8 +132,8 @@ fn declined(state: State, number: u8) -> Stepped
 }
 
 fn ended(state: State, run: Run) -> Stepped
-    requires { ⌜ Ready 16 state ⌝ }
-    ensures { λ r. do ⌜ r ≡ ended (← ⟦State::MOST⟧ .entry) state run ⌝ }
+    requires { ⌜ Ready mostPorts state ⌝ }
+    ensures { λ r. ⌜ r ≡ ended mostPorts state run ⌝ }
 {
     if run.stuck {
         return declined(state, 12);
@@ -157,7 +158,7 @@ pub fn slot_on_tables(
     req: [u16; State::MOST],
     pre: [u16; State::MOST],
 ) -> Stepped
-    ensures { λ r. do ⌜ r ≡ slotOnTables (← ⟦State::MOST⟧ .entry) state slot mode req pre ⌝ }
+    ensures { λ r. ⌜ r ≡ slotOnTables mostPorts state slot mode req pre ⌝ }
 {
     let number = due_number(state, slot, mode);
     if number == 0 {

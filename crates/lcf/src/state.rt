@@ -1,6 +1,7 @@
 // The state of a shelf, and the mode of a slot.
 ghost use mathlib.Core.Path.{_≡_};
 ghost use lib.ListN.{replicate};
+ghost use Rattle.frames.specs.Part.{mostPorts};
 ghost use Rattle.lcf.specs.Ready.{fresh};
 
 // The report's requester index.
@@ -34,7 +35,7 @@ impl State {
     pub const MOST: usize = frames::Ports::MOST;
 
     pub fn fresh(ports: usize, due: u32) -> Fresh
-        ensures { λ r. do ⌜ r ≡ fresh (← ⟦State::MOST⟧ .entry) ports due ⌝ }
+        ensures { λ r. ⌜ r ≡ fresh mostPorts ports due ⌝ }
     {
         if (ports < 1) | (State::MOST < ports) {
             return Fresh {
@@ -59,7 +60,7 @@ impl State {
     }
 
     pub fn empty_table() -> [u16; State::MOST]
-        ensures { λ r. do ⌜ r ≡ replicate (← ⟦State::MOST⟧ .entry) 0 ⌝ }
+        ensures { λ r. ⌜ r ≡ replicate mostPorts 0 ⌝ }
     {
         [0; State::MOST]
     }
