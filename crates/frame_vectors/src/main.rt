@@ -106,9 +106,17 @@ fn grant(frame: &[u8]) {
     }
 }
 
-fn write_grant(g: Grant, out: &mut [u8]) {
+// The flags as in the frame: gntVal, linkErr and CRCErr in bits 0, 1 and 2.
+fn write_grant(nodeid: u8, gnt: u8, flags: u8, out: &mut [u8]) {
+    let grant = Grant {
+        nodeid,
+        gnt,
+        gntval: flags % 2 == 1,
+        linkerr: flags / 2 % 2 == 1,
+        crcerr: flags / 4 % 2 == 1,
+    };
     text(b"grant");
-    let number = frames::write_grant(g, out);
+    let number = frames::write_grant(grant, out);
     written(number, out);
 }
 
@@ -179,83 +187,17 @@ fn grants() {
 
 // With room, with more and with too little; and out of form, which comes before too little room.
 fn written_grants() {
-    let mut out0 = [0xAAu8; 5];
-    write_grant(
-        Grant {
-            nodeid: 3,
-            gnt: 5,
-            gntval: true,
-            linkerr: false,
-            crcerr: true,
-        },
-        &mut out0,
-    );
-    let mut out1 = [0xAAu8; 7];
-    write_grant(
-        Grant {
-            nodeid: 15,
-            gnt: 0,
-            gntval: false,
-            linkerr: true,
-            crcerr: false,
-        },
-        &mut out1,
-    );
-    let mut out2 = [0xAAu8; 4];
-    write_grant(
-        Grant {
-            nodeid: 0,
-            gnt: 0,
-            gntval: false,
-            linkerr: false,
-            crcerr: false,
-        },
-        &mut out2,
-    );
-    let mut out3 = [0xAAu8; 5];
-    write_grant(
-        Grant {
-            nodeid: 16,
-            gnt: 0,
-            gntval: false,
-            linkerr: false,
-            crcerr: false,
-        },
-        &mut out3,
-    );
-    let mut out4 = [0xAAu8; 5];
-    write_grant(
-        Grant {
-            nodeid: 0,
-            gnt: 16,
-            gntval: true,
-            linkerr: false,
-            crcerr: false,
-        },
-        &mut out4,
-    );
-    let mut out5 = [0xAAu8; 5];
-    write_grant(
-        Grant {
-            nodeid: 0,
-            gnt: 1,
-            gntval: false,
-            linkerr: false,
-            crcerr: false,
-        },
-        &mut out5,
-    );
-    let mut out6 = [0xAAu8; 4];
-    write_grant(
-        Grant {
-            nodeid: 16,
-            gnt: 0,
-            gntval: false,
-            linkerr: false,
-            crcerr: false,
-        },
-        &mut out6,
-    );
+    let mut whole = [0xAAu8; 5];
+    write_grant(3, 5, 5, &mut whole);
+    let mut more = [0xAAu8; 7];
+    write_grant(15, 0, 2, &mut more);
+    let mut less = [0xAAu8; 4];
+    write_grant(0, 0, 0, &mut less);
+    let mut kept = [0xAAu8; 5];
+    write_grant(16, 0, 0, &mut kept);
+    write_grant(0, 16, 1, &mut kept);
+    write_grant(0, 1, 0, &mut kept);
+    write_grant(16, 0, 0, &mut less);
 }
 
 // Found; and n, the block and h out of range.
