@@ -94,9 +94,9 @@ enum bellacush_number {
  * keep every byte. So a block that comes twice is served once, and its copy is refused with
  * BELLACUSH_SLOT_STALE. Tested in order: 8 (state, table), 1, 2, 3 or 4, 5, 6, 7, 12.
  *
- * Whatever the other hosts ask, a pair that waits in each of W slots served one after another
- * (heard, enabled, asking, nothing planned by its initiator or for its target) is connected in
- * at least W / n^2 of them, rounded down.
+ * Whatever the other hosts send, a pair is connected in at least W / n^2, rounded down, of any
+ * W slots served one after another if in each of them its host is heard, enabled, asks for the
+ * target and plans nothing, and no enabled host plans that target.
  */
 uint32_t bellacush_slot(uint8_t *state, size_t state_len, uint32_t slot, uint32_t mode,
                         const uint8_t *block, size_t block_len, uint16_t link,
