@@ -16,7 +16,7 @@ pub struct Tables {
 }
 
 fn at_most(ports: usize) -> usize
-    ensures { λ r. do ⌜ r ≡ min ports (← ⟦State::MOST⟧ .entry) ⌝ }
+    ensures { λ r. ⌜ r ≡ min ports 16 ⌝ }
 {
     if ports < State::MOST {
         ports

@@ -37,7 +37,7 @@ pub(crate) fn clip(row: u16, n: usize) -> u16
 }
 
 pub(crate) fn within(n: usize, rows: [u16; State::MOST]) -> [u16; State::MOST]
-    requires { do ⌜ n ≤ (← ⟦State::MOST⟧) ⌝ }
+    requires { ⌜ n ≤ 16 ⌝ }
     ensures { λ r. ⌜ r ≡ within n rows ⌝ }
 {
     let mut table = State::empty_table();
@@ -56,7 +56,7 @@ pub(crate) fn gather(s: u16, row: u16, i: usize, t: Target) -> u16
 }
 
 pub(crate) fn column(rows: [u16; State::MOST], n: usize, t: Target) -> u16
-    requires { do ⌜ (n ≤ (← ⟦State::MOST⟧)) × (t .0 < n) ⌝ }
+    requires { ⌜ (n ≤ 16) × (t .0 < n) ⌝ }
     ensures { λ r. ⌜ r ≡ column rows n (t .0) ⌝ }
 {
     let mut s = 0;

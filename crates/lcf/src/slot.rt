@@ -90,7 +90,7 @@ fn wrong_limit(mode: Mode) -> bool
 {
     match mode {
         Mode::Central => false,
-        Mode::Distributed(limit) => (limit < 1) | (16 < limit),
+        Mode::Distributed(limit) => (limit < 1) | ((State::MOST as u32) < limit),
     }
 }
 
@@ -118,7 +118,7 @@ pub fn due_number(state: State, slot: u32, mode: Mode) -> u8
 }
 
 fn declined(state: State, number: u8) -> Stepped
-    ensures { λ r. do ⌜ r ≡ declined (← ⟦State::MOST⟧ .entry) state number ⌝ }
+    ensures { λ r. ⌜ r ≡ declined 16 state number ⌝ }
 {
     Stepped {
         state,
@@ -132,7 +132,7 @@ fn declined(state: State, number: u8) -> Stepped
 
 fn ended(state: State, run: Run) -> Stepped
     requires { ⌜ Ready 16 state ⌝ }
-    ensures { λ r. do ⌜ r ≡ ended (← ⟦State::MOST⟧ .entry) state run ⌝ }
+    ensures { λ r. ⌜ r ≡ ended 16 state run ⌝ }
 {
     if run.stuck {
         return declined(state, 12);
