@@ -1,12 +1,11 @@
 -- Laws of the rotation and of the choice, over any p, f, n and start.
 use mathlib.Core.Path.{_≡_, refl, sym, ap, _∙_}
-use mathlib.Core.Logic.{_⊎_, ⊎-elim}
-use mathlib.Core.Bool.{Bool, true, false, _&&_, cond, false≢true}
+use mathlib.Core.Bool.{Bool, true, false, _&&_, false≢true}
 use Prim.Native.Nat.{ℕ, zero, suc, _+_, _-_, _*_, _/_, _%_, _^_, _<_, _≤_}
-use native.Mathlib.Nat.{lt-of-lt-of-le, mod-lt, mod-eq-of-lt, add-mod-right, mod-add-mod, div-le-self, zero-div, zero-add, add-zero, add-suc, mul-le-mul-right}
+use native.Mathlib.Nat.{lt-of-lt-of-le, mod-lt, mod-eq-of-lt, add-mod-right, mod-add-mod, zero-div, zero-add, add-zero, add-suc, mul-le-mul-right}
 use native.Mathlib.Numerals.{add-one}
 use native.Mathlib.Omega.{arith}
-use borrow.Author.Tests.{lt-ltb, le-ltb, ltb-true, ltb-false}
+use borrow.Author.Tests.{lt-ltb, ltb-true, ltb-false}
 use lib.Count.{trailingZeros}
 use lib.Dec.{eqb, ltb}
 use lib.ListN.{getD, replicate}

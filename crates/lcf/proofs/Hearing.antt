@@ -2,7 +2,7 @@
 use mathlib.Core.Path.{_≡_, refl, sym, ap, _∙_}
 use mathlib.Core.Bool.{Bool, true, false, not, _&&_, cond, and-true, and-false}
 use mathlib.Core.List.{List}
-use Prim.Native.Nat.{ℕ, zero, suc, min, _+_, _-_, _^_, _≤_, _<_}
+use Prim.Native.Nat.{ℕ, zero, suc, min, _+_, _-_, _^_, _<_}
 use native.Mathlib.Omega.{arith}
 use borrow.Author.Tests.{leb-true, leb-false}
 use lib.Bits.{bitAnd}
@@ -10,7 +10,7 @@ use lib.Dec.{eqb, leb}
 use lib.ListN.{length, getD, set}
 use lib.Seq.{set-out}
 use Rattle.laws.specs.Steps.{steps}
-use Rattle.laws.specs.Sets.{has, asks, with, gathered, tabled}
+use Rattle.laws.specs.Sets.{has, asks, with, tabled}
 use Rattle.laws.proofs.Loops.{same-steps, stays}
 use Rattle.laws.proofs.Rows.{length-tabled}
 use Rattle.laws.proofs.Words.{has-and, with-some, digit-past}

@@ -13,7 +13,6 @@ use Rattle.laws.specs.Steps.{steps}
 use Rattle.laws.specs.Sets.{asks, with, column, sizes, gathered}
 use Rattle.laws.proofs.Loops.{same-steps, done}
 use Rattle.laws.proofs.Rows.{row-tabled, no-bits}
-use Rattle.lcf.specs.Choice.{turned}
 use Rattle.lcf.specs.Central.{fewest}
 use Rattle.lcf.specs.Distributed.{askers, grants, offers, accepted, answer, answered}
 use Rattle.lcf.specs.Offers.{granted, offer, offering, Offers, accept}

@@ -3,7 +3,7 @@ use Prim.Native.Nat.{ℕ, _<_}
 use mathlib.Core.Path.{_≡_}
 use mathlib.Core.Bool.{true, cond}
 use mathlib.Core.List.{List}
-use lib.ListN.{length, getD, set, replicate}
+use lib.ListN.{getD, set}
 use Rattle.laws.specs.Steps.{steps}
 use Rattle.laws.specs.Sets.{has, asks, with}
 use Rattle.lcf.specs.Choice.{turned, choice}

@@ -1,4 +1,4 @@
-// The Least Choice First scheduler on tables: rules 3 to 7 of document 01.
+// The Least Choice First scheduler on tables: rules 1 to 7 of document 01.
 mod central;
 mod choice;
 mod distributed;

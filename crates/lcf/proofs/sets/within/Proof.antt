@@ -1,7 +1,7 @@
 use Rattle.laws.proofs.Rows.{rows}
 use mathlib.Core.Path.{_≡_}
 use Prim.Native.Nat.{_≤_, _-_, _%_, _^_}
-use lib.ListN.{getD, length}
+use lib.ListN.{getD}
 use Rattle.laws.specs.Sets.{tabled}
 use Rattle.lcf.specs.Slot.{within}
 use Rattle.lcf.proofs.sets.within.Statement.{statement}

@@ -8,5 +8,6 @@ pub wrong-limit-spec : {M : Type 1} → statement M
 unfolding wrongLimit
 wrong-limit-spec =
     tie.close
-    (tie.spec (λ c. search needs) (λ c. search needs) (λ c. sym (ap (wrongLimit 16) (c .enum-told .given .1)))
+    (tie.spec (λ c. search needs) (λ c. search needs) (λ c. search needs)
+    (λ c. sym (ap (wrongLimit 16) (c .enum-told .given .1)))
     (λ c. sym (ap (wrongLimit 16) (c .before .mode .given .1))))
