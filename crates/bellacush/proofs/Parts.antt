@@ -1,7 +1,7 @@
 -- What the bytes of the C form come to.
-use mathlib.Core.Path.{_≡_, refl, sym, ap, _∙_}
-use mathlib.Core.Bool.{Bool, true, false, not, _&&_, cond}
-use mathlib.Core.List.{List, [], _∷_, _++_, append-nil}
+use mathlib.Core.Path.{_≡_, refl, sym, _∙_}
+use mathlib.Core.Bool.{cond}
+use mathlib.Core.List.{List, [], _++_, append-nil}
 use Prim.Native.Nat.{ℕ, zero, suc, _+_, _*_, _-_, _≤_, _<_}
 use native.Mathlib.Nat.{le-of-eq}
 use native.Mathlib.Omega.{arith}
@@ -13,7 +13,7 @@ use Rattle.laws.specs.Bytes.{numberFrom, number}
 use Rattle.frames.specs.Frame.{bodyOf, formNumber}
 use Rattle.frames.specs.Config.{configLen, configType}
 use Rattle.frames.specs.Grant.{grantLen, grantType, bodyInForm, grantNumber}
-use Rattle.frames.proofs.FrameLaws.{Sound, sound}
+use Rattle.frames.proofs.FrameLaws.{sound}
 use Rattle.bellacush.specs.Frames.{partNumber, partAfter}
 
 -- the slot due, in the last four of a state's bytes

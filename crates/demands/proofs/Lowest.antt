@@ -1,5 +1,5 @@
 -- A set of numbers below n is a word below 2 ^ n, and of such a word the lowest target is the lowest.
-use mathlib.Core.Path.{_≡_, refl, sym, subst, _∙_}
+use mathlib.Core.Path.{_≡_, sym, subst, _∙_}
 use mathlib.Core.Bool.{true, true≢false}
 use Prim.Native.Nat.{ℕ, zero, suc, _/_, _%_, _^_, _≤_, _<_}
 use native.Mathlib.Nat.{div-lt-iff-lt-mul, pow-suc, one-mul}

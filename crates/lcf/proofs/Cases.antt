@@ -2,7 +2,6 @@
 use mathlib.Core.Path.{_≡_, refl}
 use mathlib.Core.List.{List, [], _∷_, _++_}
 use Prim.Native.Nat.{ℕ}
-use lib.Bits.{bitOr}
 use lib.Count.{ones}
 use lib.ListN.{replicate, take}
 use Rattle.laws.specs.Steps.{steps}

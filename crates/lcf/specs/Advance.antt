@@ -1,7 +1,7 @@
 -- Rule 7, the advance; and a fresh state.
-use Prim.Native.Nat.{ℕ, _+_, _%_, _^_}
-use mathlib.Core.Bool.{cond, _||_}
-use lib.Dec.{eqb, ltb}
+use Prim.Native.Nat.{_+_, _%_, _^_}
+use mathlib.Core.Bool.{cond}
+use lib.Dec.{eqb}
 use Rattle.lcf.specs.declared.state.State.{State}
 
 unfoldable pub advance : State → State

@@ -1,7 +1,7 @@
 -- How a pair is joined, in every rule: the initiator holds the target, and its row and the target's column stop being live (rules 4, 5 and 6).
 use Prim.Native.Nat.{ℕ}
 use mathlib.Core.Bool.{cond}
-use mathlib.Core.List.{List, map}
+use mathlib.Core.List.{map}
 use lib.ListN.{getD, set}
 use Rattle.laws.specs.Sets.{asks, with, without}
 use Rattle.lcf.specs.declared.work.Work.{Work}

@@ -1,6 +1,6 @@
 -- One slot on tables: rules 3 to 7, and the numbers 1 to 5 and 12.
 use Prim.Native.Nat.{ℕ, _+_, _-_, _%_, _^_}
-use mathlib.Core.Bool.{Bool, true, false, _&&_, _||_, cond}
+use mathlib.Core.Bool.{Bool, false, _&&_, _||_, cond}
 use mathlib.Core.List.{List}
 use lib.Dec.{eqb, ltb, leb}
 use lib.ListN.{length, getD, replicate}

@@ -1,6 +1,6 @@
 -- One host more is heard, or is not: what the rows and the set of heard hosts come to.
 use mathlib.Core.Path.{_≡_, refl, sym, ap, _∙_}
-use mathlib.Core.Bool.{Bool, true, false, cond}
+use mathlib.Core.Bool.{Bool, true, false}
 use mathlib.Core.List.{List, [], _∷_}
 use mathlib.Core.Logic.{⊎-elim}
 use Prim.Native.Nat.{ℕ, zero, suc, _+_, _*_, _%_, _^_, _≤_, _<_}
@@ -13,7 +13,7 @@ use lib.Seq.{getD-set-other, set-getD}
 use types.Run.{OneOf}
 use denote.Enum.Declared.{tagOf}
 use Rattle.laws.specs.Steps.{steps}
-use Rattle.laws.specs.Sets.{with, gathered, tabled}
+use Rattle.laws.specs.Sets.{gathered, tabled}
 use Rattle.laws.proofs.Rows.{next-row, no-bits}
 use Rattle.laws.proofs.Words.{or-puts}
 use Rattle.frames.specs.Frame.{Answer}
@@ -23,7 +23,6 @@ use Rattle.frames.specs.declared.config.ConfigRead.{ConfigRead}
 use Rattle.frames.specs.declared.config.ConfigRead.the-variants.{Frame, WrongLength, WrongType, WrongCheck}
 use Rattle.frames.proofs.config.ConfigRead as T
 use Rattle.shelf.specs.Hosts.{said, isHeard, fieldOf, hostsOf}
-use Rattle.shelf.specs.declared.hosts.Hosts.{Hosts}
 
 -- an answer that is no frame: a number, and zero fields
 unheard : (r : ConfigRead) → OneOf (1 ∷ 2 ∷ 3 ∷ []) (tagOf T.the-type r) → (eqb (configAnswer r .number) 0 ≡ false) × (configAnswer r .fields ≡ noConfig)

@@ -1,6 +1,6 @@
 -- What is known of a slot that none of the numbers 1 to 7 declines.
 use mathlib.Core.Path.{_≡_, refl}
-use mathlib.Core.Bool.{Bool, true, false, not, cond}
+use mathlib.Core.Bool.{Bool, true, false, cond}
 use mathlib.Core.List.{List}
 use Prim.Native.Nat.{ℕ, zero, suc, _*_, _≤_}
 use native.Mathlib.Omega.{arith}
@@ -11,8 +11,7 @@ use Rattle.frames.specs.Frame.{differs}
 use Rattle.frames.specs.Config.{configLen}
 use Rattle.frames.specs.Grant.{grantLen}
 use Rattle.lcf.specs.Slot.{dueNumber}
-use Rattle.lcf.specs.Ready.{Ready}
-use Rattle.lcf.proofs.Slots.{Served, served}
+use Rattle.lcf.proofs.Slots.{served}
 use Rattle.lcf.specs.declared.state.State.{State}
 use Rattle.lcf.specs.declared.state.Mode.{Mode}
 use Rattle.shelf.specs.Step.{refusal}

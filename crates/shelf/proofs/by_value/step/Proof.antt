@@ -1,4 +1,4 @@
-use mathlib.Core.Path.{_≡_, sym, _∙_}
+use mathlib.Core.Path.{sym, _∙_}
 use borrow.Author.Needs.{needs}
 use Rattle.shelf.proofs.Refusals.{taken}
 use Rattle.shelf.proofs.Stepping.{refused, stuck, served}

@@ -1,6 +1,3 @@
-use mathlib.Core.Path.{_≡_}
-use mathlib.Core.Bool.{not}
-use Prim.Native.Nat.{_≤_}
 use native.Mathlib.Omega.{arith}
 use lib.ListN.{getD}
 use borrow.Author.Needs.{needs}
