@@ -18,6 +18,7 @@ WARNINGS = -Wall -Wextra -Wpedantic -Werror
 # Another archive can stand in, as in: make test-c LIBRARY=elsewhere/libbellacush.a
 PROVED = target/staticlib/libbellacush.a
 LIBRARY ?= $(PROVED)
+MEASURED = target/staticlib/libmeasured.a
 HEADER = include/bellacush.h
 SOURCES = crates.txt $(shell find crates -name '*.rt' -o -name '*.antt')
 CARGO = BELLACUSH_ARCHIVE='$(abspath $(LIBRARY))' cargo
@@ -26,8 +27,9 @@ CARGO = BELLACUSH_ARCHIVE='$(abspath $(LIBRARY))' cargo
 
 all: $(LIBRARY) build/shelf
 
-$(PROVED): $(SOURCES)
-	rt staticlib bellacush
+# The library, and the check alone, which only the benchmark links.
+$(PROVED) $(MEASURED): target/staticlib/lib%.a: $(SOURCES)
+	rt staticlib $*
 	@touch $@
 
 build/shelf: firmware/shelf.c $(HEADER) $(LIBRARY)
@@ -40,7 +42,7 @@ run: build/shelf
 test:
 	.ci/run
 
-test-rust: $(LIBRARY)
+test-rust: $(LIBRARY) $(MEASURED)
 	cargo fmt --all --check
 	$(CARGO) test --offline --quiet --workspace --no-fail-fast
 
@@ -58,11 +60,7 @@ test-c: build/calls-c build/calls-cpp build/shelf
 	./build/calls-cpp
 	tests/c/shelf ./build/shelf
 
-target/staticlib/libmeasured.a: $(SOURCES)
-	rt staticlib measured
-	@touch $@
-
-bench: $(LIBRARY) target/staticlib/libmeasured.a
+bench: $(LIBRARY) $(MEASURED)
 	$(CARGO) run --offline --quiet --release --package bellacush-bench
 
 install: $(LIBRARY)
