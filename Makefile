@@ -27,7 +27,7 @@ CARGO = BELLACUSH_ARCHIVE='$(abspath $(LIBRARY))' cargo
 
 all: $(LIBRARY) build/shelf
 
-# The library, and the check alone, which only the benchmark links.
+# The library, and the checks alone, which only the benchmark links.
 $(PROVED) $(MEASURED): target/staticlib/lib%.a: $(SOURCES)
 	rt staticlib $*
 	@touch $@

@@ -1,4 +1,4 @@
-//! Links libmeasured.a, the proved check alone, beside the C form's archive.
+//! Links libmeasured.a, the proved checks alone, beside the C form's archive.
 fn main() {
     let folder = concat!(env!("CARGO_MANIFEST_DIR"), "/../target/staticlib");
     println!("cargo:rerun-if-changed={folder}/libmeasured.a");

@@ -1,0 +1,12 @@
+-- Each call's promise allows one result. `Learnt` is what the contract tells a caller at the arguments a.
+use mathlib.Core.Path.{_≡_}
+use Prim.Native.Nat.{ℕ}
+use Rattle.laws.proofs.Unique.{the-result}
+use Rattle.measured.proofs.measured_crc.Reads as crc
+use Rattle.measured.proofs.measured_checks.Reads as checks
+
+pub crc-once : (κs a : _) (r s : ℕ) (x y : _) → crc.Learnt κs a r x → crc.Learnt κs a s y → r ≡ s
+crc-once κs a r s x y p q = the-result p q
+
+pub checks-once : (κs a : _) (r s : ℕ) (x y : _) → checks.Learnt κs a r x → checks.Learnt κs a s y → r ≡ s
+checks-once κs a r s x y p q = the-result p q
