@@ -33,7 +33,7 @@ fn flag(b: bool) {
 
 fn crc(s: &[u8]) {
     text(b"crc ");
-    io::print_hex(1, frames::crc(s) as u64, 4);
+    io::print_hex(1, words::crc(s) as u64, 4);
     text(b"\n");
 }
 

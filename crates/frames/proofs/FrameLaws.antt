@@ -6,25 +6,25 @@ use Prim.Native.Nat.{ℕ, suc, _+_, _-_, _≤_, _<_}
 use native.Mathlib.Omega.{arith}
 use borrow.Author.Tests.{eq-eqb, eqb-true}
 use lib.Dec.{eqb}
-use lib.ListN.{length, getD, take, drop, take-append-drop, length-append, length-drop}
-use lib.Seq.{length-take-le, take-all, take-at, drop-at, drop-cons}
-use Rattle.laws.specs.Bytes.{Bytes, bigEndian, number}
-use Rattle.laws.proofs.Bytes.{length-big, number-big, big-number, bytes-drop, bytes-take}
-use Rattle.frames.specs.Check.{crcOf}
+use lib.ListN.{length, getD, take, drop, length-drop}
+use lib.Seq.{length-take-le, take-at, drop-cons}
+use Rattle.laws.specs.Bytes.{Bytes}
+use Rattle.laws.proofs.Bytes.{bytes-drop, bytes-take}
+use Rattle.words.specs.Check.{checked, front, intact}
+use Rattle.words.proofs.CheckLaws.{length-checked, checked-intact, intact-checked}
 use Rattle.frames.specs.Frame.{sealed, bodyOf, formNumber, formAnswer, answered, written}
 use Rattle.frames.specs.declared.frame.Form.{Form}
-use Rattle.frames.proofs.CheckLaws.{crc-small}
 
 pub length-sealed : (type : ℕ) (body : List ℕ) → length (sealed type body) ≡ length body + 3
-length-sealed type body = length-append (type ∷ body) _ ∙ rw (length-big 2) (omega arith)
+length-sealed type body = length-checked (type ∷ body) ∙ omega arith
 
 -- what opens with 0 has passed the three tests
 pub record Sound (len type : ℕ) (s : List ℕ) : Type 0 where
   pub long : length s ≡ len
   pub typed : getD s 0 0 ≡ type
-  pub checks : number (drop (len - 2) s) ≡ crcOf (take (len - 2) s)
+  pub checks : intact s ≡ true
 
-passed : (a b c : Bool) → _≡_ {A = ℕ} (cond (not a) 8 (cond (not b) 9 (cond (not c) 10 0))) 0 → (a ≡ true) × (b ≡ true) × (c ≡ true)
+passed : (a b c : Bool) → _≡_ {A = ℕ} (cond (not a) 8 (cond (not b) 9 (cond c 0 10))) 0 → (a ≡ true) × (b ≡ true) × (c ≡ true)
 passed true true true e = (refl, refl, refl)
 passed true true false e = absurd (omega arith)
 passed true false c e = absurd (omega arith)
@@ -33,8 +33,8 @@ passed false b c e = absurd (omega arith)
 pub sound : (len type : ℕ) (s : List ℕ) → formNumber len type s ≡ 0 → Sound len type s
 unfolding formNumber
 sound len type s e =
-    let p = passed (eqb (length s) len) (eqb (getD s 0 0) type) (eqb (number (drop (len - 2) s)) (crcOf (take (len - 2) s))) e in
-    record { long = eqb-true _ _ (p .0); typed = eqb-true _ _ (p .1); checks = eqb-true _ _ (p .2) }
+    let p = passed (eqb (length s) len) (eqb (getD s 0 0) type) (intact s) e in
+    record { long = eqb-true _ _ (p .0); typed = eqb-true _ _ (p .1); checks = p .2 }
 
 -- the number that an opening which came out as v stands for
 pub told : {r : Form} (v : Form) {k : ℕ} → r ≡ v → formAnswer r ≡ k → k ≡ formAnswer v
@@ -44,11 +44,7 @@ told v e a = sym a ∙ ap formAnswer e
 module _ (len type : ℕ) (body : List ℕ) (long : length body + 3 ≡ len) where
   pub form-sealed : formNumber len type (sealed type body) ≡ 0
   unfolding formNumber
-  form-sealed =
-      let t = type ∷ body in
-      let check = bigEndian 2 (crcOf t) in
-      let front : length t ≡ len - 2 = omega arith in
-      rw (eq-eqb _ _ (length-sealed type body ∙ long), eq-eqb type type refl, take-at t check (len - 2) front, drop-at t check (len - 2) front, number-big 2 (crcOf t) (crc-small t), eq-eqb (crcOf t) (crcOf t) refl)
+  form-sealed = rw (eq-eqb _ _ (length-sealed type body ∙ long), eq-eqb type type refl, checked-intact (type ∷ body))
 
   pub body-sealed : bodyOf len (sealed type body) ≡ body
   body-sealed = take-at body _ (len - 3) (omega arith)
@@ -57,16 +53,10 @@ module _ (len type : ℕ) (body : List ℕ) (long : length body + 3 ≡ len) whe
 pub sealed-form : (len type : ℕ) (s : List ℕ) → 3 ≤ len → Bytes s → formNumber len type s ≡ 0 → s ≡ sealed type (bodyOf len s)
 sealed-form len type s least bytes e =
     let h = sound len type s e in
-    let end = drop (len - 2) s in
-    let two : length end ≡ 2 = length-drop (len - 2) s ∙ omega arith in
-    let all : take 2 end ≡ end = take-all 2 end (omega arith) in
-    let check : bigEndian 2 (crcOf (take (len - 2) s)) ≡ end =
-    rw (← h .checks) (rw all at (big-number end (bytes-drop (len - 2) s bytes) 2 (omega arith))) in
     let some : 0 < length s = omega arith in
-    let more : len - 2 ≡ suc (len - 3) = omega arith in
-    let front : take (len - 2) s ≡ type ∷ bodyOf len s =
-    rw more (ap (take (suc (len - 3))) (drop-cons s 0 0 some) ∙ rw (h .typed)) in
-    sym (take-append-drop (len - 2) s) ∙ rw (← check, front)
+    let more : length s - 2 ≡ suc (len - 3) = omega arith in
+    let typed : front s ≡ type ∷ bodyOf len s = rw more (ap (take (suc (len - 3))) (drop-cons s 0 0 some) ∙ rw (h .typed)) in
+    intact-checked s bytes (h .checks) ∙ ap checked typed
 
 pub body-bytes : (len : ℕ) (s : List ℕ) → Bytes s → Bytes (bodyOf len s)
 body-bytes len s bytes = bytes-take (len - 3) (drop 1 s) (bytes-drop 1 s bytes)

@@ -1,4 +1,3 @@
-pub mod CheckLaws
 pub mod FrameLaws
 pub mod ConfigLaws
 pub mod GrantLaws

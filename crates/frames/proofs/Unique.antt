@@ -15,15 +15,11 @@ use Rattle.frames.specs.declared.config.ConfigRead.the-variants as confi
 use Rattle.frames.specs.declared.grant.Grant.{Grant}
 use Rattle.frames.specs.declared.grant.GrantRead.{GrantRead}
 use Rattle.frames.specs.declared.grant.GrantRead.the-variants as grant
-use Rattle.frames.proofs.check.crc.Reads as crc
 use Rattle.frames.proofs.config.read_config.Reads as read-config
 use Rattle.frames.proofs.config.write_config.Reads as write-config
 use Rattle.frames.proofs.grant.read_grant.Reads as read-grant
 use Rattle.frames.proofs.grant.write_grant.Reads as write-grant
 use Rattle.frames.proofs.part.host_frame.Reads as host-frame
-
-pub crc-once : (κs a : _) (r s : ℕ) (x y : _) → crc.Learnt κs a r x → crc.Learnt κs a s y → r ≡ s
-crc-once κs a r s x y p q = the-result p q
 
 -- the case that an answer is of
 abbrev configCase : Answer Config → ConfigRead

@@ -4,17 +4,12 @@ use mathlib.Core.Bool.{Bool, not, cond}
 use mathlib.Core.List.{List, _∷_, _++_}
 use lib.Dec.{eqb, ltb}
 use lib.ListN.{length, getD, take, drop}
-use Rattle.laws.specs.Bytes.{bigEndian, number}
-use Rattle.frames.specs.Check.{crcOf}
+use Rattle.words.specs.Check.{checked, intact}
 use Rattle.frames.specs.declared.frame.Form.{Form}
 use Rattle.frames.specs.declared.frame.Form.the-variants.{Sound, WrongLength, WrongType, WrongCheck}
 
 abbrev pub differs : ℕ → ℕ → Bool
 differs a b = not (eqb a b)
-
--- bytes, and their check
-abbrev pub checked : List ℕ → List ℕ
-checked s = s ++ bigEndian 2 (crcOf s)
 
 abbrev pub sealed : ℕ → List ℕ → List ℕ
 sealed type body = checked (type ∷ body)
@@ -28,7 +23,7 @@ unfoldable pub formNumber : ℕ → ℕ → List ℕ → ℕ
 formNumber len type s =
     cond (differs (length s) len) 8
     (cond (differs (getD s 0 0) type) 9
-    (cond (differs (number (drop (len - 2) s)) (crcOf (take (len - 2) s))) 10 0))
+    (cond (intact s) 0 10))
 
 abbrev pub formAnswer : Form → ℕ
 formAnswer Sound = 0

@@ -1,4 +1,3 @@
-pub mod Check
 pub mod Frame
 pub mod Config
 pub mod Grant

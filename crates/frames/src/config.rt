@@ -1,15 +1,13 @@
 // The configuration frame.
 ghost use mathlib.Core.Path.{_≡_};
-ghost use Prim.Native.Nat.{_-_};
-ghost use lib.ListN.{length};
+ghost use Prim.Native.Nat.{_+_, _-_, _≤_};
+ghost use lib.ListN.{length, take, drop};
+ghost use Rattle.laws.specs.Bytes.{number};
 ghost use Rattle.frames.specs.Config.{configLen, configWidth, configFrame, configOf, configAnswer, readConfig, writeConfigNumber, writeConfigOutput};
 use crate::frame::Form;
 use crate::frame::open;
 use crate::frame::put;
-use crate::frame::seal;
-use crate::word::high;
-use crate::word::low;
-use crate::word::word;
+use words::two_bytes;
 
 pub struct Config {
     pub req: u16,
@@ -26,6 +24,14 @@ pub enum ConfigRead {
     WrongCheck,
 }
 
+// The sixteen bits that start at byte `at`.
+fn word(s: &[u8], at: usize) -> u16
+    requires { ⌜ at + 2 ≤ length (now s) ⌝ }
+    ensures { λ r. ⌜ r ≡ number (take 2 (drop at (now (s .entry)))) ⌝ }
+{
+    words::of_two(s[at], s[at + 1])
+}
+
 impl Config {
     const TYPE: u8 = 1;
 
@@ -36,20 +42,24 @@ impl Config {
     fn frame(self) -> [u8; Config::LEN]
         ensures { λ r. ⌜ r ≡ configFrame self ⌝ }
     {
+        let req = two_bytes(self.req);
+        let pre = two_bytes(self.pre);
+        let ben = two_bytes(self.ben);
+        let qen = two_bytes(self.qen);
         let mut frame = [
             Config::TYPE,
-            high(self.req),
-            low(self.req),
-            high(self.pre),
-            low(self.pre),
-            high(self.ben),
-            low(self.ben),
-            high(self.qen),
-            low(self.qen),
+            req[0],
+            req[1],
+            pre[0],
+            pre[1],
+            ben[0],
+            ben[1],
+            qen[0],
+            qen[1],
             0,
             0,
         ];
-        seal(&mut frame);
+        words::seal(&mut frame);
         frame
     }
 

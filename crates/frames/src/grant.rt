@@ -1,15 +1,14 @@
 // The grant frame.
 ghost use mathlib.Core.Path.{_≡_};
-ghost use Prim.Native.Nat.{_-_, _≤_, _<_};
+ghost use Prim.Native.Nat.{_-_, _≤_};
 ghost use lib.ListN.{length};
-ghost use Rattle.laws.specs.Sets.{has};
 ghost use mathlib.Core.Bool.{cond};
 ghost use Rattle.frames.specs.Frame.{answered};
 ghost use Rattle.frames.specs.Grant.{grantLen, agrees, inForm, bit, grantFrame, grantOf, bodyInForm, noGrant, grantAnswer, readGrant, writeGrantNumber, writeGrantOutput};
 use crate::frame::Form;
 use crate::frame::open;
 use crate::frame::put;
-use crate::frame::seal;
+use words::holds;
 
 // Document 01's nodeId, gnt, gntVal, linkErr and CRCErr.
 pub struct Grant {
@@ -33,13 +32,6 @@ fn bit(b: bool) -> u8
     ensures { λ r. ⌜ (r ≡ bit b) × (r ≤ 1) ⌝ }
 {
     if b { 1 } else { 0 }
-}
-
-fn flag(flags: u8, k: u8) -> bool
-    requires { ⌜ k < 8 ⌝ }
-    ensures { λ r. ⌜ r ≡ has flags k ⌝ }
-{
-    (flags >> k) % 2 == 1
 }
 
 impl Grant {
@@ -72,7 +64,7 @@ impl Grant {
             0,
             0,
         ];
-        seal(&mut frame);
+        words::seal(&mut frame);
         frame
     }
 
@@ -81,13 +73,13 @@ impl Grant {
         ensures { λ r. ⌜ r ≡ grantOf (now (body .entry)) ⌝ }
     {
         let numbers = body[0];
-        let flags = body[1];
+        let flags = body[1] as u16;
         Grant {
             nodeid: numbers / 16,
             gnt: numbers % 16,
-            gntval: flag(flags, 0),
-            linkerr: flag(flags, 1),
-            crcerr: flag(flags, 2),
+            gntval: holds(flags, 0),
+            linkerr: holds(flags, 1),
+            crcerr: holds(flags, 2),
         }
     }
 }

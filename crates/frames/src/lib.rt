@@ -1,12 +1,9 @@
-// The frames of document 01: their check, their readers and writers, and a host's part of a slot block.
-mod check;
+// The frames of document 01: their readers and writers, and a host's part of a slot block.
 mod config;
 mod frame;
 mod grant;
 mod part;
-mod word;
 
-pub use check::crc;
 pub use config::Config;
 pub use config::ConfigRead;
 pub use config::read_config;

@@ -3,10 +3,10 @@ use Prim.Native.Nat.{ℕ, _*_}
 use mathlib.Core.Bool.{cond}
 use mathlib.Core.List.{List}
 use lib.Bits.{bitXor}
+use lib.Dec.{eqb}
 use lib.ListN.{length, take, drop}
 use Rattle.laws.specs.Steps.{steps}
-use Rattle.frames.specs.Check.{crcOf}
-use Rattle.frames.specs.Frame.{differs}
+use Rattle.words.specs.Check.{crcOf}
 
 abbrev pub checksOf : List ℕ → ℕ
 checksOf part = bitXor (crcOf part) (crcOf (take 3 part))
@@ -16,4 +16,4 @@ abbrev pub checksTo : List ℕ → ℕ → ℕ
 checksTo s = steps (λ h sum. bitXor sum (checksOf (take 9 (drop (h * 9) s)))) 0
 
 abbrev pub slotChecks : List ℕ → ℕ
-slotChecks s = cond (differs (length s) 144) 0 (checksTo s 16)
+slotChecks s = cond (eqb (length s) 144) (checksTo s 16) 0

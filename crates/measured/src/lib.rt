@@ -1,21 +1,21 @@
 // What the benchmark calls beside the C form: the checks alone.
 ghost use mathlib.Core.Path.{_≡_};
 ghost use lib.ListN.{length};
-ghost use Rattle.frames.specs.Check.{crcOf};
+ghost use Rattle.words.specs.Check.{crcOf};
 ghost use Rattle.measured.specs.Checks.{checksOf, slotChecks};
 
 #[no_mangle]
 pub extern "C" fn measured_crc(bytes: &[u8]) -> u16
     ensures { λ r. ⌜ r ≡ crcOf (now (bytes .entry)) ⌝ }
 {
-    frames::crc(bytes)
+    words::crc(bytes)
 }
 
 fn both(part: &[u8]) -> u16
     requires { ⌜ length (now part) ≡ 9 ⌝ }
     ensures { λ r. ⌜ r ≡ checksOf (now (part .entry)) ⌝ }
 {
-    frames::crc(part) ^ frames::crc(&part[..3])
+    words::crc(part) ^ words::crc(&part[..3])
 }
 
 // All checks of one slot in one call, so that the compiler knows their lengths, as it does in the slot.

@@ -1,4 +1,5 @@
 -- `frames::grant::Grant::of` meets its contract.
+use native.Mathlib.Omega.{arith}
 use Rattle.frames.specs.Grant.{grantOf}
 use borrow.Author.Needs.{needs}
 use Rattle.frames.proofs.grant.Grant.of.Statement.{statement}
@@ -14,6 +15,7 @@ of-spec =
     (tie.spec
     (λ c. search needs)
     (λ c. search needs)
+    (λ c. omega (arith, c .shared-slice-known3 .given 1))
     (λ c κs. search needs)
     (λ c κs. search needs)
     (λ c κs. search needs)

@@ -1,8 +1,8 @@
--- `frames::check::crc_bit` meets its contract.
+-- `words::check::crc_bit` meets its contract.
 use borrow.Author.Tests.{lt-ltb, le-ltb}
-use Rattle.frames.specs.Check.{crcBit}
-use Rattle.frames.proofs.check.crc_bit.Statement.{statement}
-use Rattle.frames.proofs.check.crc_bit.Tie as tie
+use Rattle.words.specs.Check.{crcBit}
+use Rattle.words.proofs.check.crc_bit.Statement.{statement}
+use Rattle.words.proofs.check.crc_bit.Tie as tie
 
 pub crc-bit-spec : {M : Type 1} → statement M
 unfolding crcBit

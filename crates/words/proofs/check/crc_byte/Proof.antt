@@ -1,4 +1,4 @@
--- `frames::check::crc_byte` meets its contract: after k turns k of the eight steps are done.
+-- `words::check::crc_byte` meets its contract: after k turns k of the eight steps are done.
 use mathlib.Core.Path.{_≡_}
 use Prim.Native.Nat.{ℕ, _≤_, _*_, _-_}
 use native.Mathlib.Numerals.{add-one}
@@ -6,9 +6,9 @@ use native.Mathlib.Omega.{arith}
 use borrow.Author.Needs.{needs}
 use lib.Bits.{bitXor}
 use Rattle.laws.specs.Steps.{steps}
-use Rattle.frames.specs.Check.{crcBit, crcByte}
-use Rattle.frames.proofs.check.crc_byte.Statement.{statement}
-use Rattle.frames.proofs.check.crc_byte.Tie as tie
+use Rattle.words.specs.Check.{crcBit, crcByte}
+use Rattle.words.proofs.check.crc_byte.Statement.{statement}
+use Rattle.words.proofs.check.crc_byte.Tie as tie
 
 abbrev Inv-loop : tie.InvT-loop
 Inv-loop c b x₀ k₀ x k = (k ≤ 8) × (x ≡ steps (λ (i y : ℕ). crcBit y) (bitXor c (b * 256)) k)

@@ -1,4 +1,4 @@
--- `frames::check::crc` meets its contract: the check so far, carried over the bytes that are left, is the check of all.
+-- `words::check::crc` meets its contract: the check so far, carried over the bytes that are left, is the check of all.
 use mathlib.Core.Path.{_≡_, refl}
 use Prim.Native.Nat.{_≤_, _<_, _-_}
 use native.Mathlib.Numerals.{add-one}
@@ -6,9 +6,9 @@ use native.Mathlib.Omega.{arith}
 use borrow.Author.Needs.{needs}
 use lib.ListN.{length, drop, drop-of-length-le}
 use lib.Seq.{drop-cons}
-use Rattle.frames.specs.Check.{crcOf, crcFrom}
-use Rattle.frames.proofs.check.crc.Statement.{statement}
-use Rattle.frames.proofs.check.crc.Tie as tie
+use Rattle.words.specs.Check.{crcOf, crcFrom}
+use Rattle.words.proofs.check.crc.Statement.{statement}
+use Rattle.words.proofs.check.crc.Tie as tie
 
 abbrev Inv-loop : tie.InvT-loop
 Inv-loop s c₀ i₀ i-end c i = (i ≤ length s) × (i-end ≡ length s) × (crcFrom c (drop i s) ≡ crcOf s)

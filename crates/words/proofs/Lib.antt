@@ -1,0 +1,3 @@
+pub mod BytesAt
+pub mod CheckLaws
+pub mod Unique
