@@ -10,6 +10,7 @@ use Rattle.lcf.proofs.state.State.fresh.Reads as fresh
 use Rattle.lcf.proofs.state.State.empty_table.Reads as empty-table
 use Rattle.lcf.proofs.heard.counted.Reads as counted
 use Rattle.lcf.proofs.slot.due_number.Reads as due-number
+use Rattle.lcf.proofs.slot.declined.Reads as declined
 use Rattle.lcf.proofs.slot.slot_on_tables.Reads as slot-on-tables
 
 pub fresh-once : (κs a : _) (r s : Fresh) (x y : _) → fresh.Learnt κs a r x → fresh.Learnt κs a s y → r ≡ s
@@ -23,6 +24,9 @@ counted-once κs a r s x y p q = the-result p q
 
 pub due-number-once : (κs a : _) (r s : ℕ) (x y : _) → due-number.Learnt κs a r x → due-number.Learnt κs a s y → r ≡ s
 due-number-once κs a r s x y p q = the-result p q
+
+pub declined-once : (κs a : _) (r s : Stepped) (x y : _) → declined.Learnt κs a r x → declined.Learnt κs a s y → r ≡ s
+declined-once κs a r s x y p q = the-result p q
 
 pub slot-on-tables-once : (κs a : _) (r s : Stepped) (x y : _) → slot-on-tables.Learnt κs a r x → slot-on-tables.Learnt κs a s y → r ≡ s
 slot-on-tables-once κs a r s x y p q = the-result p q

@@ -1,9 +1,9 @@
 // The choice of rules 3, 5 and 6, and where its rotation starts.
 use crate::sets::clip;
-use crate::sets::holds;
 use crate::state::Initiator;
 use crate::state::State;
 use crate::state::Target;
+use words::holds;
 ghost use mathlib.Core.Path.{_≡_};
 ghost use Prim.Native.Nat.{_+_, _%_, _<_, _≤_};
 ghost use lib.ListN.{getD};

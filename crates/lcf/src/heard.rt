@@ -1,6 +1,6 @@
 // Rules 1 and 2: what of the hosts' fields counts.
-use crate::sets::holds;
 use crate::state::State;
+use words::holds;
 ghost use mathlib.Core.Path.{_≡_};
 ghost use mathlib.Core.Bool.{cond};
 ghost use Prim.Native.Nat.{min, _<_, _≤_};

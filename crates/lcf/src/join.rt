@@ -1,11 +1,11 @@
 // How a pair is joined: its row and its column stop being live.
 use crate::sets::clear;
-use crate::sets::holds;
 use crate::sets::put;
 use crate::state::Initiator;
 use crate::state::State;
 use crate::state::Target;
 use crate::work::Work;
+use words::holds;
 ghost use mathlib.Core.Path.{_≡_};
 ghost use mathlib.Core.List.{map};
 ghost use Prim.Native.Nat.{_<_};

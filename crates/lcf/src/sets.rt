@@ -1,19 +1,13 @@
 // Sets of ports as words, and tables of them.
 use crate::state::State;
 use crate::state::Target;
+use words::holds;
 ghost use mathlib.Core.Path.{_≡_};
 ghost use mathlib.Core.Bool.{cond};
 ghost use Prim.Native.Nat.{_%_, _^_, _<_, _≤_};
 ghost use Rattle.frames.specs.Part.{mostPorts};
 ghost use Rattle.laws.specs.Sets.{has, with, without, column, sizes};
 ghost use Rattle.lcf.specs.Slot.{within};
-
-pub(crate) fn holds(s: u16, k: usize) -> bool
-    requires { ⌜ k < mostPorts ⌝ }
-    ensures { λ r. ⌜ r ≡ has s k ⌝ }
-{
-    (s >> k) % 2 == 1
-}
 
 pub(crate) fn put(s: u16, k: usize) -> u16
     requires { ⌜ k < mostPorts ⌝ }

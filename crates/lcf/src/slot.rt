@@ -118,7 +118,8 @@ pub fn due_number(state: State, slot: u32, mode: Mode) -> u8
     0
 }
 
-fn declined(state: State, number: u8) -> Stepped
+// What a slot that is not served answers.
+pub fn declined(state: State, number: u8) -> Stepped
     ensures { λ r. ⌜ r ≡ declined mostPorts state number ⌝ }
 {
     Stepped {

@@ -1,14 +1,12 @@
 // One slot, from bytes to bytes, by value.
 ghost use mathlib.Core.Path.{_≡_};
 ghost use Rattle.frames.specs.Part.{mostPorts};
-ghost use Rattle.lcf.specs.Slot.{declined};
 ghost use Rattle.shelf.specs.Step.{refusal, slotOnHosts, stepped, output};
 use crate::grants::write_grants;
 use crate::hosts::Hosts;
 use crate::hosts::hear;
 use frames::Config;
 use frames::Grant;
-use lcf::Answer;
 use lcf::Mode;
 use lcf::State;
 use lcf::Stepped;
@@ -29,19 +27,6 @@ fn refusal(state: State, slot: u32, mode: Mode, block: &[u8], out: &[u8]) -> u8
     0
 }
 
-fn declined(state: State, number: u8) -> Stepped
-    ensures { λ r. ⌜ r ≡ declined mostPorts state number ⌝ }
-{
-    Stepped {
-        state: state,
-        answer: Answer {
-            number: number,
-            rounds: 0,
-            sets: [0; State::MOST],
-        },
-    }
-}
-
 fn slot_on_hosts(state: State, slot: u32, mode: Mode, hosts: Hosts) -> Stepped
     ensures { λ r. ⌜ r ≡ slotOnHosts mostPorts state slot mode hosts ⌝ }
 {
@@ -59,7 +44,7 @@ pub fn step(state: State, slot: u32, mode: Mode, block: &[u8], link: u16, out: &
 {
     let number = refusal(state, slot, mode, block, out);
     if number != 0 {
-        return declined(state, number);
+        return lcf::declined(state, number);
     }
     let hosts = hear(state.ports, block);
     let stepped = slot_on_hosts(state, slot, mode, hosts);

@@ -3,19 +3,12 @@ ghost use mathlib.Core.Path.{_≡_};
 ghost use Prim.Native.Nat.{_≤_, _<_, _*_};
 ghost use lib.ListN.{length};
 ghost use mathlib.Core.Bool.{true};
-ghost use Rattle.laws.specs.Sets.{has};
 ghost use Rattle.frames.specs.Part.{mostPorts};
 ghost use Rattle.frames.specs.Grant.{grantLen, inForm};
 ghost use Rattle.shelf.specs.Grants.{lowest, grantFor, granted};
 use frames::Grant;
 use lcf::State;
-
-fn holds(set: u16, i: usize) -> bool
-    requires { ⌜ i < mostPorts ⌝ }
-    ensures { λ r. ⌜ r ≡ has set i ⌝ }
-{
-    (set >> i) % 2 == 1
-}
+use words::holds;
 
 fn lowest_target(set: u16) -> u8
     ensures { λ r. ⌜ (r ≡ lowest mostPorts set) × (r < mostPorts) ⌝ }
