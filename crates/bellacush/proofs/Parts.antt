@@ -2,29 +2,18 @@
 use mathlib.Core.Path.{_≡_, refl, sym, _∙_}
 use mathlib.Core.Bool.{cond}
 use mathlib.Core.List.{List, [], _++_, append-nil}
-use Prim.Native.Nat.{ℕ, zero, suc, _+_, _*_, _-_, _≤_, _<_}
+use Prim.Native.Nat.{ℕ, zero, suc, _-_, _≤_}
 use native.Mathlib.Nat.{le-of-eq}
 use native.Mathlib.Omega.{arith}
 use lib.Dec.{eqb, eqb·suc-zero}
-use lib.ListN.{length, getD, take, drop, length-drop, drop-of-length-le}
-use lib.Seq.{drop-cons, length-take-le, take-length}
+use lib.ListN.{length, take, drop, length-drop, drop-of-length-le}
+use lib.Seq.{length-take-le, take-length}
 use borrow.Author.Tests.{eq-eqb, ne-eqb}
-use Rattle.laws.specs.Bytes.{numberFrom, number}
 use Rattle.frames.specs.Frame.{bodyOf, formNumber}
 use Rattle.frames.specs.Config.{configLen, configType}
 use Rattle.frames.specs.Grant.{grantLen, grantType, bodyInForm, grantNumber}
 use Rattle.frames.proofs.FrameLaws.{sound}
 use Rattle.bellacush.specs.Frames.{partNumber, partAfter}
-
--- the slot due, in the last four of a state's bytes
-pub due-bytes : (s : List ℕ) → length s ≡ 7 → number (take 4 (drop 3 s)) ≡ ((getD s 3 0 * 256 + getD s 4 0) * 256 + getD s 5 0) * 256 + getD s 6 0
-unfolding numberFrom
-due-bytes s h =
-    let h3 : 3 < length s = omega arith in
-    let h4 : 4 < length s = omega arith in
-    let h5 : 5 < length s = omega arith in
-    let h6 : 6 < length s = omega arith in
-    rw (drop-cons s 3 0 h3, drop-cons s 4 0 h4, drop-cons s 5 0 h5, drop-cons s 6 0 h6) (omega arith)
 
 -- a whole copy in the place of as many bytes
 pub copied : (s part last : List ℕ) → length part ≡ length s → last ≡ take (length s) s ++ drop (length s) part → last ≡ s

@@ -12,8 +12,9 @@ fn put_set(set: u16, out: &mut [u8])
     requires { ⌜ 2 ≤ length (now out) ⌝ }
     ensures { λ _. ⌜ now (out .exit) ≡ bigEndian 2 set ++ drop 2 (now (out .entry)) ⌝ }
 {
-    out[0] = (set / 256 % 256) as u8;
-    out[1] = (set % 256) as u8;
+    let bytes = words::two_bytes(set);
+    out[0] = bytes[0];
+    out[1] = bytes[1];
 }
 
 pub(crate) fn put_table(sets: [u16; State::MOST], table: &mut [u8])

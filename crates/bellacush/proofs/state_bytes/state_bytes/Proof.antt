@@ -8,5 +8,5 @@ pub state-bytes-spec : {M : Type 1} → statement M
 unfolding stateBytes bigEndian
 state-bytes-spec =
     tie.close
-    (tie.spec (λ c κs. search needs) (λ c κs. search needs) (λ c κs. search needs) (λ c. search needs) (λ c. search needs) (λ c. search needs) (λ c. search needs)
-    (λ c. cc))
+    (tie.spec (λ c κs. search needs) (λ c κs. search needs) (λ c κs. search needs) (λ c κs. search needs) (λ c. search needs) (λ c. search needs) (λ c. search needs) (λ c. search needs)
+    (λ c. rw (c .before .before .before .four-bytes .ensures, c .before .before .low .ensures, c .before .low2 .ensures, c .low3 .ensures)))

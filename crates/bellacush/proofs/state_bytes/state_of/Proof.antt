@@ -1,6 +1,7 @@
+use native.Mathlib.Omega.{arith}
 use borrow.Author.Needs.{needs}
+use Rattle.words.proofs.BytesAt.{four-at}
 use Rattle.bellacush.specs.Slot.{stateOf}
-use Rattle.bellacush.proofs.Parts.{due-bytes}
 use Rattle.bellacush.proofs.state_bytes.state_of.Statement.{statement}
 use Rattle.bellacush.proofs.state_bytes.state_of.Tie as tie
 
@@ -9,4 +10,9 @@ unfolding stateOf
 state-of-spec =
     tie.close
     (tie.spec (λ c. search needs) (λ c κs. search needs) (λ c. search needs) (λ c κs. search needs) (λ c. search needs) (λ c κs. search needs) (λ c. search needs) (λ c. search needs) (λ c. search needs) (λ c. search needs) (λ c κs. search needs)
-    (λ c. let s = c .before .before .before .before .before .before .before .before .before .before .before .before in rw (due-bytes (s .args .bytes .now) (s .pre)) (cc)))
+    (λ c.
+    let j = c .before .before .before .before .before in
+    let i = j .before .before in
+    let n = i .before .before in
+    let s = n .before .before .before in
+    rw (four-at (s .args .bytes .now) 3 (omega (arith, s .pre)), n .wide .ensures, i .wide2 .ensures, j .wide3 .ensures, c .of-four .ensures)))

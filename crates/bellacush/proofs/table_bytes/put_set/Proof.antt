@@ -8,5 +8,5 @@ pub put-set-spec : {M : Type 1} → statement M
 unfolding bigEndian
 put-set-spec =
     tie.close
-    (tie.spec (λ c. search needs) (λ c. search needs) (λ c. search needs) (λ c. search needs) (λ c. search needs)
-    (λ c. sets-eq (bigEndian 2 (c .args .set)) (c .args .out .now) 0 (c .pre)))
+    (tie.spec (λ c κs. search needs) (λ c. search needs) (λ c. search needs) (λ c. search needs) (λ c. search needs) (λ c. search needs)
+    (λ c. rw (c .two-bytes .ensures) (sets-eq (bigEndian 2 (c .before .before .args .set)) (c .before .before .args .out .now) 0 (c .before .before .pre))))
