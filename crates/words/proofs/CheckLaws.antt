@@ -7,7 +7,7 @@ use native.Mathlib.Nat.{mod-lt}
 use native.Mathlib.Omega.{arith}
 use borrow.Author.Tests.{eq-eqb, eqb-true, le-leb, leb-true}
 use lib.Bits.{bitXor, xor-lt}
-use lib.Dec.{eqb, ltb, leb, lit<}
+use lib.Dec.{ltb, leb, lit<}
 use lib.ListN.{length, take, take-append-drop, length-append, length-drop}
 use lib.Seq.{take-all, take-at, drop-at}
 use Rattle.laws.specs.Bytes.{Bytes, bigEndian, number}

@@ -1,14 +1,14 @@
 -- `words::bits::holds` meets its contract: a word of 16 digits has none from the sixteenth on.
 use mathlib.Core.Path.{_≡_, sym, ap}
 use mathlib.Core.Bool.{_&&_}
-use Prim.Native.Nat.{ℕ, _/_, _%_, _^_, _<_}
+use Prim.Native.Nat.{ℕ, _%_, _^_, _<_}
 use native.Mathlib.Nat.{mod-eq-of-lt}
 use native.Mathlib.Decide.{decLt}
 use native.Mathlib.Omega.{arith}
 use lib.Dec.{eqb, ltb}
 use borrow.Author.Needs.{needs}
 use borrow.Author.Tests.{lt-ltb, le-ltb}
-use Rattle.laws.specs.Sets.{digit, has}
+use Rattle.laws.specs.Sets.{has}
 use Rattle.laws.proofs.Words.{digit-past}
 use Rattle.words.proofs.bits.holds.Statement.{statement}
 use Rattle.words.proofs.bits.holds.Tie as tie
