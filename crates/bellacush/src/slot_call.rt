@@ -11,6 +11,7 @@ use crate::table_bytes::TABLE_LEN;
 use crate::table_bytes::put_table;
 use lcf::Answer;
 use lcf::Mode;
+use lcf::Set;
 use lcf::Stepped;
 
 fn mode_of(mode: u32) -> Mode
@@ -31,7 +32,7 @@ fn word_of(answer: Answer) -> u32
 
 // Stores the next state and the sets of a slot that was served.
 fn store(stepped: Stepped, state: &mut [u8], table: &mut [u8])
-    requires { ⌜ (length (now state) ≡ stateLen) × (length (now table) ≡ 32) ⌝ }
+    requires { ⌜ (length (now state) ≡ stateLen) × (length (now table) ≡ mostPorts * 2) ⌝ }
     ensures { λ _. ⌜ (now (state .exit) ≡ stateAfter stepped (now (state .entry))) × (now (table .exit) ≡ tableAfter stepped (now (table .entry))) ⌝ }
 {
     let next = stepped.state;
@@ -51,7 +52,7 @@ pub extern "C" fn bellacush_slot(
     slot: u32,
     mode: u32,
     block: &[u8],
-    link: u16,
+    link: Set,
     out: &mut [u8],
     table: &mut [u8],
 ) -> u32

@@ -1,14 +1,17 @@
 // The sixteen sets as thirty-two bytes.
 ghost use mathlib.Core.Path.{_≡_};
-ghost use Prim.Native.Nat.{_≤_};
+ghost use Prim.Native.Nat.{_*_, _≤_};
 ghost use mathlib.Core.List.{_++_};
 ghost use lib.ListN.{length, drop};
+ghost use Rattle.frames.specs.Part.{mostPorts};
 ghost use Rattle.laws.specs.Bytes.{bigEndian, row};
+use lcf::Set;
 use lcf::State;
+use lcf::Table;
 
-pub(crate) const TABLE_LEN: usize = 32;
+pub(crate) const TABLE_LEN: usize = State::MOST * 2;
 
-fn put_set(set: u16, out: &mut [u8])
+fn put_set(set: Set, out: &mut [u8])
     requires { ⌜ 2 ≤ length (now out) ⌝ }
     ensures { λ _. ⌜ now (out .exit) ≡ bigEndian 2 set ++ drop 2 (now (out .entry)) ⌝ }
 {
@@ -17,8 +20,8 @@ fn put_set(set: u16, out: &mut [u8])
     out[1] = bytes[1];
 }
 
-pub(crate) fn put_table(sets: [u16; State::MOST], table: &mut [u8])
-    requires { ⌜ length (now table) ≡ 32 ⌝ }
+pub(crate) fn put_table(sets: Table, table: &mut [u8])
+    requires { ⌜ length (now table) ≡ mostPorts * 2 ⌝ }
     ensures { λ _. ⌜ now (table .exit) ≡ row 2 sets ⌝ }
 {
     for i in 0..State::MOST {

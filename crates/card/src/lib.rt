@@ -3,6 +3,7 @@ ghost use Rattle.frames.specs.Part.{mostPorts};
 ghost use Rattle.card.specs.Slot.{Lent};
 use lcf::Answer;
 use lcf::Mode;
+use lcf::Set;
 use lcf::State;
 
 pub fn slot(
@@ -10,7 +11,7 @@ pub fn slot(
     slot: u32,
     mode: Mode,
     block: &[u8],
-    link: u16,
+    link: Set,
     out: &mut [u8],
 ) -> Answer
     ensures { λ r. ⌜ Lent mostPorts (now (state .entry)) slot mode (now (block .entry)) link (now (out .entry)) r (now (state .exit)) (now (out .exit)) ⌝ }

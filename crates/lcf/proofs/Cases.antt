@@ -1,10 +1,11 @@
 -- Cases A to I of document 01, one computed statement over the definitions, I at both limits, with round counts.
 use mathlib.Core.Path.{_≡_, refl}
 use mathlib.Core.List.{List, [], _∷_, _++_}
-use Prim.Native.Nat.{ℕ}
+use Prim.Native.Nat.{ℕ, _-_}
 use lib.Count.{ones}
 use lib.ListN.{replicate, take}
 use Rattle.laws.specs.Steps.{steps}
+use Rattle.frames.specs.Part.{mostPorts}
 use Rattle.lcf.specs.Heard.{clearers, present, counted}
 use Rattle.lcf.specs.Choice.{choice}
 use Rattle.lcf.specs.Join.{join, joinLive}
@@ -17,11 +18,15 @@ use Rattle.lcf.specs.declared.state.State.{State}
 use Rattle.lcf.specs.declared.state.Mode.{Mode}
 use Rattle.lcf.specs.declared.state.Mode.the-variants.{Central, Distributed}
 
+-- a table of which the first four rows are given
+whole : List ℕ → List ℕ
+whole rows = rows ++ replicate (mostPorts - 4) 0
+
 -- the number, the rounds and the sets of n initiators, at offsets (i, j)
 shown : ℕ → ℕ → ℕ → Mode → List ℕ → List ℕ → List ℕ
 shown n i j mode req pre =
     let st : State = record { ports = n; initiator = record { 0 = i }; target = record { 0 = j }; due = 7 } in
-    let a = slotOnTables 16 st 7 mode (req ++ replicate 12 0) (pre ++ replicate 12 0) .answer in
+    let a = slotOnTables mostPorts st 7 mode (whole req) (whole pre) .answer in
     a .number ∷ a .rounds ∷ take n (a .sets)
 
 none : List ℕ
@@ -53,5 +58,5 @@ worked : cases ≡
     ∷ (0 ∷ 1 ∷ 2 ∷ 0 ∷ 4 ∷ [])
     ∷ (0 ∷ 2 ∷ 2 ∷ 1 ∷ 4 ∷ [])
     ∷ []
-unfolding cases none shown steps ones clearers present counted choice join joinLive planner give planned fewest winner serve askers grants offers accepted answer round oneMore distributed advance within start serveMode matched behind wrongLimit dueNumber declined ended slotOnTables
+unfolding cases none shown whole steps ones clearers present counted choice join joinLive planner give planned fewest winner serve askers grants offers accepted answer round oneMore distributed advance within start serveMode matched behind wrongLimit dueNumber declined ended slotOnTables
 worked = refl

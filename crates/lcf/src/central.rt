@@ -6,6 +6,7 @@ use crate::sets::column;
 use crate::sets::sizes;
 use crate::state::Initiator;
 use crate::state::State;
+use crate::state::Table;
 use crate::state::Target;
 use crate::work::Work;
 use words::holds;
@@ -15,7 +16,7 @@ ghost use Rattle.frames.specs.Part.{mostPorts};
 ghost use Rattle.lcf.specs.Ready.{Ready};
 ghost use Rattle.lcf.specs.Central.{winner, serve, central};
 
-fn winner(live: [u16; State::MOST], n: usize, t: Target, a: Initiator) -> Initiator
+fn winner(live: Table, n: usize, t: Target, a: Initiator) -> Initiator
     requires { ⌜ (n ≤ mostPorts) × (t .0 < n) × (a .0 < n) ⌝ }
     ensures { λ r. ⌜ (r .0 ≡ winner live n (t .0) (a .0)) × (r .0 < n) ⌝ }
 {

@@ -1,6 +1,8 @@
 // The choice of rules 3, 5 and 6, and where its rotation starts.
 use crate::sets::clip;
 use crate::state::Initiator;
+use crate::state::Moved;
+use crate::state::Set;
 use crate::state::State;
 use crate::state::Target;
 use words::holds;
@@ -46,7 +48,7 @@ pub(crate) fn first_target(state: State, i: Initiator) -> Target
 }
 
 fn contend(
-    among: u16,
+    among: Set,
     numbers: &[u32; State::MOST],
     n: usize,
     from: usize,
@@ -66,22 +68,22 @@ fn contend(
 
 // The members still to come, a bit for each place of the rotation after those passed, and the best of those passed.
 pub struct Scan {
-    pub left: u32,
+    pub left: Moved,
     pub passed: usize,
     pub best: usize,
 }
 
-fn rotated(among: u16, n: usize, from: usize) -> u32
+fn rotated(among: Set, n: usize, from: usize) -> Moved
     requires { ⌜ (n ≤ mostPorts) × (from < n) ⌝ }
     ensures { λ r. ⌜ Turned (has among) n from 0 r ⌝ }
 {
     let s = clip(among, n);
     let low = clip(s, from);
-    ((low as u32) << (n - from)) + ((s as u32) >> from)
+    ((low as Moved) << (n - from)) + ((s as Moved) >> from)
 }
 
 // To the next member at once: who does not ask costs no time.
-fn next(among: u16, numbers: &[u32; State::MOST], n: usize, from: usize, scan: Scan) -> Scan
+fn next(among: Set, numbers: &[u32; State::MOST], n: usize, from: usize, scan: Scan) -> Scan
     requires { ⌜ (n ≤ mostPorts) × (from < n) × (scan .left ≡ 0 → ⊥) × (Scanned (has among) (λ x. getD (now numbers) x 0) n from scan) ⌝ }
     ensures { λ r. ⌜ (r .left < scan .left) × (Scanned (has among) (λ x. getD (now (numbers .entry)) x 0) n from r) ⌝ }
 {
@@ -94,7 +96,7 @@ fn next(among: u16, numbers: &[u32; State::MOST], n: usize, from: usize, scan: S
     }
 }
 
-pub(crate) fn choose(among: u16, numbers: [u32; State::MOST], n: usize, from: usize) -> usize
+pub(crate) fn choose(among: Set, numbers: [u32; State::MOST], n: usize, from: usize) -> usize
     requires { ⌜ (n ≤ mostPorts) × (from < n) ⌝ }
     ensures { λ r. ⌜ (r ≡ choice (has among) (λ x. getD numbers x 0) n from) × (r < n) ⌝ }
 {

@@ -8,7 +8,9 @@ use crate::sets::column;
 use crate::sets::gather;
 use crate::sets::sizes;
 use crate::state::Initiator;
+use crate::state::Set;
 use crate::state::State;
+use crate::state::Table;
 use crate::state::Target;
 use crate::work::Round;
 use crate::work::Run;
@@ -27,7 +29,7 @@ ghost use Rattle.lcf.specs.Distributed.{
 };
 ghost use Rattle.lcf.specs.Offers.{granted, Offers, accept};
 
-fn askers(state: State, live: [u16; State::MOST]) -> [u16; State::MOST]
+fn askers(state: State, live: Table) -> Table
     requires { ⌜ Ready mostPorts state ⌝ }
     ensures { λ r. ⌜ r ≡ askers state live ⌝ }
 {
@@ -39,7 +41,7 @@ fn askers(state: State, live: [u16; State::MOST]) -> [u16; State::MOST]
     asked
 }
 
-fn grant(state: State, asking: u16, counts: [u32; State::MOST], t: Target) -> Initiator
+fn grant(state: State, asking: Set, counts: [u32; State::MOST], t: Target) -> Initiator
     requires { ⌜ (Ready mostPorts state) × (t .0 < state .ports) ⌝ }
     ensures { λ r. ⌜ (r .0 ≡ granted state asking counts (t .0)) × (r .0 < state .ports) ⌝ }
 {
@@ -47,7 +49,7 @@ fn grant(state: State, asking: u16, counts: [u32; State::MOST], t: Target) -> In
     Initiator(choose(asking, counts, state.ports, from.0))
 }
 
-fn offers(state: State, live: [u16; State::MOST], asked: [u16; State::MOST]) -> [u16; State::MOST]
+fn offers(state: State, live: Table, asked: Table) -> Table
     requires { ⌜ (Ready mostPorts state) × (asked ≡ askers state live) ⌝ }
     ensures { λ r. ⌜ Offers state live r ⌝ }
 {
@@ -65,7 +67,7 @@ fn offers(state: State, live: [u16; State::MOST], asked: [u16; State::MOST]) -> 
 fn accept(
     state: State,
     counts: [u32; State::MOST],
-    offered: u16,
+    offered: Set,
     i: Initiator,
     current: Round,
 ) -> Round
@@ -105,7 +107,7 @@ fn round(state: State, work: Work) -> Round
     current
 }
 
-pub(crate) fn any_live(live: [u16; State::MOST], n: usize) -> bool
+pub(crate) fn any_live(live: Table, n: usize) -> bool
     requires { ⌜ n ≤ mostPorts ⌝ }
     ensures { λ r. ⌜ r ≡ anyLive live n ⌝ }
 {

@@ -1,5 +1,7 @@
 // Rules 1 and 2: what of the hosts' fields counts.
+use crate::state::Set;
 use crate::state::State;
+use crate::state::Table;
 use words::holds;
 ghost use mathlib.Core.Path.{_≡_};
 ghost use mathlib.Core.Bool.{cond};
@@ -12,8 +14,8 @@ ghost use Rattle.lcf.specs.Heard.{Present, tables};
 
 // The requests and the planned claims of all hosts.
 pub struct Tables {
-    pub req: [u16; State::MOST],
-    pub pre: [u16; State::MOST],
+    pub req: Table,
+    pub pre: Table,
 }
 
 fn at_most(ports: usize) -> usize
@@ -27,14 +29,14 @@ fn at_most(ports: usize) -> usize
 }
 
 // Without those whom host h disables, if it is heard.
-fn enabled(s: u16, heard: u16, ben: u16, h: usize) -> u16
+fn enabled(s: Set, heard: Set, ben: Set, h: usize) -> Set
     requires { ⌜ h < mostPorts ⌝ }
     ensures { λ r. ⌜ r ≡ cond (has heard h) (bitAnd s ben) s ⌝ }
 {
     if holds(heard, h) { s & ben } else { s }
 }
 
-fn present(n: usize, heard: u16, ben: [u16; State::MOST]) -> u16
+fn present(n: usize, heard: Set, ben: Table) -> Set
     requires { ⌜ n ≤ mostPorts ⌝ }
     ensures { λ r. ⌜ Present n heard ben r ⌝ }
 {
@@ -45,14 +47,14 @@ fn present(n: usize, heard: u16, ben: [u16; State::MOST]) -> u16
     s
 }
 
-fn row_of(present: u16, row: u16, i: usize) -> u16
+fn row_of(present: Set, row: Set, i: usize) -> Set
     requires { ⌜ i < mostPorts ⌝ }
     ensures { λ r. ⌜ r ≡ cond (has present i) row 0 ⌝ }
 {
     if holds(present, i) { row } else { 0 }
 }
 
-fn rows_of(n: usize, present: u16, rows: [u16; State::MOST]) -> [u16; State::MOST]
+fn rows_of(n: usize, present: Set, rows: Table) -> Table
     requires { ⌜ n ≤ mostPorts ⌝ }
     ensures { λ r. ⌜ r ≡ tabled mostPorts (λ i. cond (has present i) (getD rows i 0) 0) n ⌝ }
 {
@@ -64,13 +66,7 @@ fn rows_of(n: usize, present: u16, rows: [u16; State::MOST]) -> [u16; State::MOS
 }
 
 // Both tables as they count: empty for a host that is unheard or disabled.
-pub fn counted(
-    ports: usize,
-    heard: u16,
-    ben: [u16; State::MOST],
-    req: [u16; State::MOST],
-    pre: [u16; State::MOST],
-) -> Tables
+pub fn counted(ports: usize, heard: Set, ben: Table, req: Table, pre: Table) -> Tables
     ensures { λ r. ⌜ r ≡ tables ports heard ben req pre ⌝ }
 {
     let n = at_most(ports);

@@ -3,6 +3,7 @@ use crate::sets::clear;
 use crate::sets::put;
 use crate::state::Initiator;
 use crate::state::State;
+use crate::state::Table;
 use crate::state::Target;
 use crate::work::Work;
 use words::holds;
@@ -13,7 +14,7 @@ ghost use Rattle.frames.specs.Part.{mostPorts};
 ghost use Rattle.laws.specs.Sets.{without};
 ghost use Rattle.lcf.specs.Join.{join, joinLive};
 
-fn clear_column(rows: [u16; State::MOST], t: Target) -> [u16; State::MOST]
+fn clear_column(rows: Table, t: Target) -> Table
     requires { ⌜ t .0 < mostPorts ⌝ }
     ensures { λ r. ⌜ r ≡ map (λ row. without row (t .0)) rows ⌝ }
 {

@@ -6,6 +6,7 @@ use crate::join::join;
 use crate::sets::column;
 use crate::state::Initiator;
 use crate::state::State;
+use crate::state::Table;
 use crate::state::Target;
 use crate::work::Work;
 use words::holds;
@@ -16,7 +17,7 @@ ghost use Rattle.lcf.specs.Ready.{Ready};
 ghost use Rattle.lcf.specs.Planned.{planner, give, planned};
 
 // Every claimant counts as equal, so the first in the rotation is chosen.
-fn planner(state: State, pre: [u16; State::MOST], t: Target) -> Initiator
+fn planner(state: State, pre: Table, t: Target) -> Initiator
     requires { ⌜ (Ready mostPorts state) × (t .0 < state .ports) ⌝ }
     ensures { λ r. ⌜ (r .0 ≡ planner state pre (t .0)) × (r .0 < state .ports) ⌝ }
 {
@@ -29,7 +30,7 @@ fn planner(state: State, pre: [u16; State::MOST], t: Target) -> Initiator
     ))
 }
 
-fn give(state: State, pre: [u16; State::MOST], t: Target, work: Work) -> Work
+fn give(state: State, pre: Table, t: Target, work: Work) -> Work
     requires { ⌜ (Ready mostPorts state) × (t .0 < state .ports) ⌝ }
     ensures { λ r. ⌜ r ≡ give state pre (t .0) work ⌝ }
 {
@@ -42,7 +43,7 @@ fn give(state: State, pre: [u16; State::MOST], t: Target, work: Work) -> Work
     }
 }
 
-fn give_all(state: State, pre: [u16; State::MOST], work: Work) -> Work
+fn give_all(state: State, pre: Table, work: Work) -> Work
     requires { ⌜ Ready mostPorts state ⌝ }
     ensures { λ r. ⌜ r ≡ planned state pre work ⌝ }
 {
@@ -55,7 +56,7 @@ fn give_all(state: State, pre: [u16; State::MOST], work: Work) -> Work
 }
 
 // Most slots have no claim, and then no target is looked at.
-pub(crate) fn planned(state: State, pre: [u16; State::MOST], work: Work) -> Work
+pub(crate) fn planned(state: State, pre: Table, work: Work) -> Work
     requires { ⌜ Ready mostPorts state ⌝ }
     ensures { λ r. ⌜ r ≡ planned state pre work ⌝ }
 {

@@ -1,5 +1,8 @@
 // Sets of ports as words, and tables of them.
+use crate::state::Moved;
+use crate::state::Set;
 use crate::state::State;
+use crate::state::Table;
 use crate::state::Target;
 use words::holds;
 ghost use mathlib.Core.Path.{_≡_};
@@ -9,14 +12,14 @@ ghost use Rattle.frames.specs.Part.{mostPorts};
 ghost use Rattle.laws.specs.Sets.{has, with, without, column, sizes};
 ghost use Rattle.lcf.specs.Slot.{within};
 
-pub(crate) fn put(s: u16, k: usize) -> u16
+pub(crate) fn put(s: Set, k: usize) -> Set
     requires { ⌜ k < mostPorts ⌝ }
     ensures { λ r. ⌜ r ≡ with s k ⌝ }
 {
     s | (1 << k)
 }
 
-pub(crate) fn clear(s: u16, k: usize) -> u16
+pub(crate) fn clear(s: Set, k: usize) -> Set
     requires { ⌜ k < mostPorts ⌝ }
     ensures { λ r. ⌜ r ≡ without s k ⌝ }
 {
@@ -24,14 +27,14 @@ pub(crate) fn clear(s: u16, k: usize) -> u16
 }
 
 // The row's bits below n.
-pub(crate) fn clip(row: u16, n: usize) -> u16
+pub(crate) fn clip(row: Set, n: usize) -> Set
     requires { ⌜ n ≤ mostPorts ⌝ }
     ensures { λ r. ⌜ r ≡ row % 2 ^ n ⌝ }
 {
-    (row as u32 % (1 << n)) as u16
+    (row as Moved % (1 << n)) as Set
 }
 
-pub(crate) fn within(n: usize, rows: [u16; State::MOST]) -> [u16; State::MOST]
+pub(crate) fn within(n: usize, rows: Table) -> Table
     requires { ⌜ n ≤ mostPorts ⌝ }
     ensures { λ r. ⌜ r ≡ within n rows ⌝ }
 {
@@ -42,15 +45,15 @@ pub(crate) fn within(n: usize, rows: [u16; State::MOST]) -> [u16; State::MOST]
     table
 }
 
-// s with i, if the row has t.
-pub(crate) fn gather(s: u16, row: u16, i: usize, t: Target) -> u16
-    requires { ⌜ (i < mostPorts) × (t .0 < mostPorts) ⌝ }
-    ensures { λ r. ⌜ r ≡ cond (has row (t .0)) (with s i) s ⌝ }
+// s with one more member, an initiator or a target, if the row has t.
+pub(crate) fn gather(s: Set, row: Set, member: usize, t: Target) -> Set
+    requires { ⌜ (member < mostPorts) × (t .0 < mostPorts) ⌝ }
+    ensures { λ r. ⌜ r ≡ cond (has row (t .0)) (with s member) s ⌝ }
 {
-    if holds(row, t.0) { put(s, i) } else { s }
+    if holds(row, t.0) { put(s, member) } else { s }
 }
 
-pub(crate) fn column(rows: [u16; State::MOST], n: usize, t: Target) -> u16
+pub(crate) fn column(rows: Table, n: usize, t: Target) -> Set
     requires { ⌜ (n ≤ mostPorts) × (t .0 < n) ⌝ }
     ensures { λ r. ⌜ r ≡ column rows n (t .0) ⌝ }
 {
@@ -61,7 +64,7 @@ pub(crate) fn column(rows: [u16; State::MOST], n: usize, t: Target) -> u16
     s
 }
 
-pub(crate) fn sizes(rows: [u16; State::MOST]) -> [u32; State::MOST]
+pub(crate) fn sizes(rows: Table) -> [u32; State::MOST]
     ensures { λ r. ⌜ r ≡ sizes rows ⌝ }
 {
     let mut counts = [0; State::MOST];

@@ -7,6 +7,7 @@ use crate::sets::within;
 use crate::state::Initiator;
 use crate::state::Mode;
 use crate::state::State;
+use crate::state::Table;
 use crate::state::Target;
 use crate::work::Answer;
 use crate::work::Run;
@@ -54,7 +55,7 @@ fn advance(state: State) -> State
 }
 
 // Rules 3 and 4.
-fn start(state: State, req: [u16; State::MOST], pre: [u16; State::MOST]) -> Work
+fn start(state: State, req: Table, pre: Table) -> Work
     requires { ⌜ Ready mostPorts state ⌝ }
     ensures { λ r. ⌜ r ≡ start state req pre ⌝ }
 {
@@ -152,13 +153,7 @@ fn ended(state: State, run: Run) -> Stepped
 }
 
 // One slot: the number, the next state, sixteen sets of targets and the rounds.
-pub fn slot_on_tables(
-    state: State,
-    slot: u32,
-    mode: Mode,
-    req: [u16; State::MOST],
-    pre: [u16; State::MOST],
-) -> Stepped
+pub fn slot_on_tables(state: State, slot: u32, mode: Mode, req: Table, pre: Table) -> Stepped
     ensures { λ r. ⌜ r ≡ slotOnTables mostPorts state slot mode req pre ⌝ }
 {
     let number = due_number(state, slot, mode);

@@ -4,6 +4,14 @@ ghost use lib.ListN.{replicate};
 ghost use Rattle.frames.specs.Part.{mostPorts};
 ghost use Rattle.lcf.specs.Ready.{fresh};
 
+// A set of ports, bit p for port p; and a row of such sets for each port.
+pub type Set = u16;
+
+pub type Table = [Set; State::MOST];
+
+// A word of twice as many bits, in which a set can be moved.
+pub(crate) type Moved = u32;
+
 // The report's requester index.
 pub struct Initiator(pub usize);
 
@@ -59,7 +67,7 @@ impl State {
         }
     }
 
-    pub fn empty_table() -> [u16; State::MOST]
+    pub fn empty_table() -> Table
         ensures { λ r. ⌜ r ≡ replicate mostPorts 0 ⌝ }
     {
         [0; State::MOST]

@@ -1,10 +1,11 @@
 // What a slot works on, and what it answers.
 use crate::state::State;
+use crate::state::Table;
 
 // The live requests and the targets held, a row for each initiator.
 pub struct Work {
-    pub live: [u16; State::MOST],
-    pub held: [u16; State::MOST],
+    pub live: Table,
+    pub held: Table,
 }
 
 // A round of the distributed form as it goes, and whether it has joined a pair.
@@ -23,7 +24,7 @@ pub struct Run {
 pub struct Answer {
     pub number: u8,
     pub rounds: u8,
-    pub sets: [u16; State::MOST],
+    pub sets: Table,
 }
 
 pub struct Stepped {

@@ -8,6 +8,7 @@ use crate::hosts::hear;
 use frames::Config;
 use frames::Grant;
 use lcf::Mode;
+use lcf::Set;
 use lcf::State;
 use lcf::Stepped;
 
@@ -39,7 +40,7 @@ fn slot_on_hosts(state: State, slot: u32, mode: Mode, hosts: Hosts) -> Stepped
     lcf::slot_on_tables(state, slot, mode, asked, claimed)
 }
 
-pub fn step(state: State, slot: u32, mode: Mode, block: &[u8], link: u16, out: &mut [u8]) -> Stepped
+pub fn step(state: State, slot: u32, mode: Mode, block: &[u8], link: Set, out: &mut [u8]) -> Stepped
     ensures { λ r. ⌜ (r ≡ stepped mostPorts state slot mode (now (block .entry)) (now (out .entry))) × (now (out .exit) ≡ output mostPorts state slot mode (now (block .entry)) link (now (out .entry))) ⌝ }
 {
     let number = refusal(state, slot, mode, block, out);

@@ -7,10 +7,11 @@ ghost use Rattle.frames.specs.Part.{mostPorts};
 ghost use Rattle.frames.specs.Grant.{grantLen, inForm};
 ghost use Rattle.shelf.specs.Grants.{lowest, grantFor, granted};
 use frames::Grant;
-use lcf::State;
+use lcf::Set;
+use lcf::Table;
 use words::holds;
 
-fn lowest_target(set: u16) -> u8
+fn lowest_target(set: Set) -> u8
     ensures { λ r. ⌜ (r ≡ lowest mostPorts set) × (r < mostPorts) ⌝ }
 {
     if set == 0 {
@@ -20,7 +21,7 @@ fn lowest_target(set: u16) -> u8
     }
 }
 
-fn grant_for(heard: u16, link: u16, sets: [u16; State::MOST], i: usize) -> Grant
+fn grant_for(heard: Set, link: Set, sets: Table, i: usize) -> Grant
     requires { ⌜ i < mostPorts ⌝ }
     ensures { λ r. ⌜ (r ≡ grantFor mostPorts heard link sets i) × (inForm r ≡ true) ⌝ }
 {
@@ -34,13 +35,7 @@ fn grant_for(heard: u16, link: u16, sets: [u16; State::MOST], i: usize) -> Grant
     }
 }
 
-pub(crate) fn write_grants(
-    ports: usize,
-    heard: u16,
-    link: u16,
-    sets: [u16; State::MOST],
-    out: &mut [u8],
-)
+pub(crate) fn write_grants(ports: usize, heard: Set, link: Set, sets: Table, out: &mut [u8])
     requires { ⌜ (ports ≤ mostPorts) × (ports * grantLen ≤ length (now out)) ⌝ }
     ensures { λ _. ⌜ now (out .exit) ≡ granted mostPorts ports heard link sets (now (out .entry)) ⌝ }
 {

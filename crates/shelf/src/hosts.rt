@@ -5,13 +5,15 @@ ghost use Rattle.frames.specs.Part.{mostPorts};
 ghost use Rattle.frames.specs.Config.{configAnswer};
 ghost use Rattle.shelf.specs.Hosts.{said, hostsOf};
 use frames::ConfigRead;
+use lcf::Set;
 use lcf::State;
+use lcf::Table;
 
 pub struct Hosts {
-    pub heard: u16,
-    pub req: [u16; State::MOST],
-    pub pre: [u16; State::MOST],
-    pub ben: [u16; State::MOST],
+    pub heard: Set,
+    pub req: Table,
+    pub pre: Table,
+    pub ben: Table,
 }
 
 fn hear_host(ports: usize, h: usize, block: &[u8]) -> ConfigRead
@@ -26,10 +28,10 @@ pub(crate) fn hear(ports: usize, block: &[u8]) -> Hosts
     requires { ⌜ ports ≤ mostPorts ⌝ }
     ensures { λ r. ⌜ r ≡ hostsOf mostPorts ports (now (block .entry)) ⌝ }
 {
-    let mut heard: u16 = 0;
-    let mut req = [0u16; State::MOST];
-    let mut pre = [0u16; State::MOST];
-    let mut ben = [0u16; State::MOST];
+    let mut heard: Set = 0;
+    let mut req = [0; State::MOST];
+    let mut pre = [0; State::MOST];
+    let mut ben = [0; State::MOST];
     for h in 0..ports {
         let ConfigRead::Frame(c) = hear_host(ports, h, block) else {
             continue;

@@ -3,9 +3,12 @@ ghost use mathlib.Core.Path.{_≡_};
 ghost use Rattle.frames.specs.Part.{mostPorts};
 ghost use Rattle.shown.specs.Slots.{stateAt, rowsOf};
 use lcf::Initiator;
+use lcf::Set;
 use lcf::State;
+use lcf::Table;
 use lcf::Target;
 use libc::STDOUT_FILENO;
+use words::holds;
 
 fn text(bytes: &[u8]) {
     io::write_all(STDOUT_FILENO, bytes);
@@ -41,40 +44,41 @@ pub fn due_at(n: usize, i: usize, j: usize, due: u32) -> State
 }
 
 // A table whose first four rows are the four digits of a hexadecimal number, row 0 the last.
-pub fn rows(digits: u16) -> [u16; State::MOST]
+pub fn rows(digits: u16) -> Table
     ensures { λ r. ⌜ r ≡ rowsOf mostPorts digits ⌝ }
 {
-    let a = digits % 16;
-    let b = digits / 16 % 16;
-    let c = digits / 256 % 16;
-    let d = digits / 4096;
-    [a, b, c, d, 0, 0, 0, 0, 0, 0, 0, 0, 0, 0, 0, 0]
+    let mut table = State::empty_table();
+    table[0] = digits % 16;
+    table[1] = digits / 16 % 16;
+    table[2] = digits / 256 % 16;
+    table[3] = digits / 4096;
+    table
 }
 
 // Writes t if the set has it, and answers whether a comma comes before the next.
-fn target(set: u16, t: u16, comma: bool) -> bool {
-    if (set >> (t % 16)) % 2 == 0 {
-        return comma;
+fn target(set: Set, t: usize, comma: bool) -> bool {
+    if holds(set, t) {
+        if comma {
+            text(b",");
+        }
+        number(t as u64);
+        return true;
     }
-    if comma {
-        text(b",");
-    }
-    number(t as u64);
-    true
+    comma
 }
 
 // Rising, with commas between, or a hyphen for none.
-fn targets(set: u16) {
+fn targets(set: Set) {
     if set == 0 {
         text(b"-");
     }
     let mut comma = false;
-    for t in 0..16u16 {
+    for t in 0..State::MOST {
         comma = target(set, t, comma);
     }
 }
 
-fn initiator(i: usize, set: u16) {
+fn initiator(i: usize, set: Set) {
     text(b" ");
     number(i as u64);
     text(b":");
@@ -82,7 +86,7 @@ fn initiator(i: usize, set: u16) {
 }
 
 // The sets of the first n initiators, and the line's end.
-pub fn sets(n: usize, sets: [u16; State::MOST]) {
+pub fn sets(n: usize, sets: Table) {
     for i in 0..State::MOST {
         if i < n {
             initiator(i, sets[i]);

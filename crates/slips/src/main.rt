@@ -2,6 +2,7 @@
 // offsets, the next slot due and the sets. The rows of req, pre and ben are a hexadecimal digit each, row 0 the last.
 use lcf::Mode;
 use lcf::State;
+use lcf::Table;
 use shown::SLOT;
 use shown::at;
 use shown::due_at;
@@ -12,14 +13,7 @@ fn field(x: u64) {
     shown::number(x);
 }
 
-fn show(
-    label: u64,
-    state: State,
-    slot: u32,
-    mode: Mode,
-    req: [u16; State::MOST],
-    pre: [u16; State::MOST],
-) {
+fn show(label: u64, state: State, slot: u32, mode: Mode, req: Table, pre: Table) {
     let r = lcf::slot_on_tables(state, slot, mode, req, pre);
     let answer = r.answer;
     let sets = answer.sets;

@@ -42,6 +42,7 @@ use denote.Triple.Clauses.{ensured, lasts}
 use denote.Triple.Table.{entered, cited}
 use denote.Triple.Walked.{says, Stays, stay-ref, stay-dropped, gave-slice, walkOf, AllGo, goes-ref, goes-dropped, goes-gave-slice, Walks, ends-at, walked, walk-meets}
 use denote.Exit.{yes}
+use Rattle.frames.specs.Part.{mostPorts}
 use Rattle.shelf.specs.Step.{stepped, output}
 use Rattle.card.specs.Slot.{Lent}
 use Rattle.lcf.specs.declared.state.State.{State}
@@ -126,7 +127,7 @@ module _ {M : Type 1} (𝓤 : URA M) (H : Heap 𝓤) (A : Atoms 𝓤) (W : Given
 
   -- what `step` says, of its result and of out's last list
   abbrev Said : Stepped → List ℕ → Type 0
-  Said r zs = (r ≡ stepped 16 h n m (bl .now) (ou .now)) × (zs ≡ output 16 h n m (bl .now) d (ou .now))
+  Said r zs = (r ≡ stepped mostPorts h n m (bl .now) (ou .now)) × (zs ≡ output mostPorts h n m (bl .now) d (ou .now))
 
   exits : (r : Stepped) (zs : List ℕ) → Said r zs → length zs ≡ length (ou .now) → Is N.the-row (r .answer) (machN (r .answer) ∷ [])
       → ent 𝓤 (⋆ 𝓤 H A (‵ (fobs γ (R .coded .code (r .state))) ∷ ‵ (fbor κ (Body (mem R) b o γ)) ∷ ‵ (flft κ q) ∷ (‵ (flft κ₁ q₁) ⊛ ‵ (flft κ₂ q₂) ⊛ ‵ ftrue) ∷ ‵ (finally u8 (ou .name) zs) ∷ [])) (Post (machN (r .answer)))

@@ -1,13 +1,14 @@
 use borrow.Author.Needs.{needs}
 use Prim.Native.Nat.{_≤_, _-_}
+use Rattle.frames.specs.Part.{mostPorts}
 use Rattle.shown.proofs.targets.Statement.{statement}
 use Rattle.shown.proofs.targets.Tie as tie
 
 abbrev Inv-loop : tie.InvT-loop
-Inv-loop set comma₀ t₀ comma t = t ≤ 16
+Inv-loop set comma₀ t₀ comma t = t ≤ mostPorts
 
 abbrev μ-loop : tie.MeasureT-loop
-μ-loop set comma₀ t₀ comma t = 16 - t
+μ-loop set comma₀ t₀ comma t = mostPorts - t
 
 pub targets-spec : {M : Type 1} → statement M
 targets-spec =

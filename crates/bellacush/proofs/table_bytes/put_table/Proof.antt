@@ -6,6 +6,7 @@ use native.Mathlib.Omega.{arith}
 use borrow.Author.Needs.{needs}
 use borrow.Rule.Slice.PartMut.{mid-len}
 use lib.ListN.{length, drop, getD, drop-of-length-le}
+use Rattle.frames.specs.Part.{mostPorts}
 use Rattle.laws.specs.Steps.{steps}
 use Rattle.laws.specs.Bytes.{bigEndian}
 use Rattle.laws.specs.Parts.{parts}
@@ -15,10 +16,10 @@ use Rattle.bellacush.proofs.table_bytes.put_table.Statement.{statement}
 use Rattle.bellacush.proofs.table_bytes.put_table.Tie as tie
 
 abbrev Inv-loop : tie.InvT-loop
-Inv-loop table₀ sets i₀ table i = (i ≤ 16) × (table ≡ parts (λ k. bigEndian 2 (getD sets k 0)) i ++ drop (i * 2) table₀) × (length table ≡ 32)
+Inv-loop table₀ sets i₀ table i = (i ≤ mostPorts) × (table ≡ parts (λ k. bigEndian 2 (getD sets k 0)) i ++ drop (i * 2) table₀) × (length table ≡ mostPorts * 2)
 
 abbrev μ-loop : tie.MeasureT-loop
-μ-loop table₀ sets i₀ table i = 16 - i
+μ-loop table₀ sets i₀ table i = mostPorts - i
 
 loop-holds : tie.Need-loop-holds Inv-loop μ-loop
 unfolding steps
@@ -33,11 +34,11 @@ loop-again c =
 
 returns : tie.Need-returns Inv-loop μ-loop
 returns c =
-    let e : c .before .loop .i ≡ 16 = omega arith in
+    let e : c .before .loop .i ≡ mostPorts = omega arith in
     let entry = c .before .before .before in
-    let none : drop 32 (entry .args .table .now) ≡ [] = drop-of-length-le (entry .args .table .now) (le-of-eq (entry .pre)) in
-    let sixteen : length (entry .args .t1) ≡ 16 = search needs in
-    rw sixteen ((rw e at (c .before .loop .inv .1)) ∙ rw (none, append-nil))
+    let none : drop (mostPorts * 2) (entry .args .table .now) ≡ [] = drop-of-length-le (entry .args .table .now) (le-of-eq (entry .pre)) in
+    let rows : length (entry .args .t1) ≡ mostPorts = search needs in
+    rw rows ((rw e at (c .before .loop .inv .1)) ∙ rw (none, append-nil))
 
 pub put-table-spec : {M : Type 1} → statement M
 put-table-spec =

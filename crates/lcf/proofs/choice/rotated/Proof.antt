@@ -1,4 +1,5 @@
 use borrow.Author.Needs.{needs}
+use Rattle.lcf.specs.Scan.{scanBits}
 use Rattle.lcf.proofs.Choices.{rotated-fits, rotated}
 use Rattle.lcf.proofs.choice.rotated.Statement.{statement}
 use Rattle.lcf.proofs.choice.rotated.Tie as tie
@@ -8,5 +9,5 @@ rotated-spec =
     tie.close
     (tie.spec (λ c κs. search needs) (λ c κs. search needs) (λ c. search needs) (λ c. search needs) (λ c. search needs)
     (λ c. search needs) (λ c. search needs) (λ c. search needs) (λ c. search needs)
-    (λ c. record { fits = rotated-fits _ _ _ (c .before .before .pre .1) 32 (search needs) (c .before .clip .ensures) (c .clip2 .ensures) })
-    (λ c. rotated _ _ _ (c .before .before .pre .1) 32 (search needs) (c .before .clip .ensures) (c .clip2 .ensures)))
+    (λ c. record { fits = rotated-fits _ _ _ (c .before .before .pre .1) scanBits (search needs) (c .before .clip .ensures) (c .clip2 .ensures) })
+    (λ c. rotated _ _ _ (c .before .before .pre .1) scanBits (search needs) (c .before .clip .ensures) (c .clip2 .ensures)))

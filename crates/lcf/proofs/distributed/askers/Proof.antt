@@ -1,4 +1,5 @@
 use Rattle.laws.proofs.Rows.{rows}
+use Rattle.frames.specs.Part.{mostPorts}
 use mathlib.Core.Path.{_≡_}
 use Prim.Native.Nat.{_≤_, _-_}
 use Rattle.laws.specs.Sets.{column, tabled}
@@ -7,7 +8,7 @@ use Rattle.lcf.proofs.distributed.askers.Statement.{statement}
 use Rattle.lcf.proofs.distributed.askers.Tie as tie
 
 abbrev Inv-loop : tie.InvT-loop
-Inv-loop live n asked₀ t₀ asked t = (t ≤ n) × (asked ≡ tabled 16 (column live n) t)
+Inv-loop live n asked₀ t₀ asked t = (t ≤ n) × (asked ≡ tabled mostPorts (column live n) t)
 
 abbrev μ-loop : tie.MeasureT-loop
 μ-loop live n asked₀ t₀ asked t = n - t

@@ -1,5 +1,6 @@
 use borrow.Author.Needs.{needs}
 use Rattle.laws.proofs.Loops.{loop}
+use Rattle.frames.specs.Part.{mostPorts}
 use mathlib.Core.Path.{_≡_}
 use Prim.Native.Nat.{_≤_, _-_}
 use Rattle.laws.proofs.Loops.{again}
@@ -23,4 +24,4 @@ offers-spec =
     (λ c. search loop) (λ c κs. search loop) (λ c. search loop) (λ c. search loop) (λ c. search loop)
     (λ c. search loop)
     (λ c. (search needs, again _ _ _ (c .before .before .before .loop .inv .1) (rw (← c .before .grant .ensures .0, ← c .gather .ensures))))
-    (λ c. all-offered _ _ (search needs) 16 _ _ _ _ (search needs) (c .before .before .before .before .pre .1) (c .before .before .before .sizes .ensures) (c .before .before .empty-table .ensures) (c .before .loop .inv .1) (search needs) (search needs)))
+    (λ c. all-offered _ _ (search needs) mostPorts _ _ _ _ (search needs) (c .before .before .before .before .pre .1) (c .before .before .before .sizes .ensures) (c .before .before .empty-table .ensures) (c .before .loop .inv .1) (search needs) (search needs)))

@@ -1,4 +1,5 @@
 use Rattle.laws.proofs.Rows.{rows}
+use Rattle.frames.specs.Part.{mostPorts}
 use mathlib.Core.Path.{_≡_}
 use mathlib.Core.Bool.{cond}
 use Prim.Native.Nat.{_≤_, _-_}
@@ -8,7 +9,7 @@ use Rattle.lcf.proofs.heard.rows_of.Statement.{statement}
 use Rattle.lcf.proofs.heard.rows_of.Tie as tie
 
 abbrev Inv-loop : tie.InvT-loop
-Inv-loop n present rows table₀ i₀ table i = (i ≤ n) × (table ≡ tabled 16 (λ k. cond (has present k) (getD rows k 0) 0) i)
+Inv-loop n present rows table₀ i₀ table i = (i ≤ n) × (table ≡ tabled mostPorts (λ k. cond (has present k) (getD rows k 0) 0) i)
 
 abbrev μ-loop : tie.MeasureT-loop
 μ-loop n present rows table₀ i₀ table i = n - i

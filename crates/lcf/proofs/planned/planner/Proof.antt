@@ -1,4 +1,5 @@
 use borrow.Author.Needs.{needs}
+use Rattle.frames.specs.Part.{mostPorts}
 use Rattle.lcf.specs.Planned.{planner}
 use Rattle.lcf.proofs.Choices.{first}
 use Rattle.lcf.proofs.planned.planner.Statement.{statement}
@@ -9,4 +10,4 @@ unfolding planner
 planner-spec =
     tie.close
     (tie.spec (λ c κs. search needs) (λ c κs. search needs) (λ c κs. search needs)
-    (λ c. (first 16 _ _ (c .before .column .ensures) (c .before .before .first-initiator .ensures .0) (c .choose .ensures .0), search needs)))
+    (λ c. (first mostPorts _ _ (c .before .column .ensures) (c .before .before .first-initiator .ensures .0) (c .choose .ensures .0), search needs)))

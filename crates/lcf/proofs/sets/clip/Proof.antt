@@ -2,6 +2,7 @@ use borrow.Author.Needs.{needs}
 use native.Mathlib.Nat.{mod-le, lt-of-le-of-lt}
 use lib.Pow.{pow-pos}
 use Rattle.laws.proofs.Words.{single}
+use Rattle.lcf.specs.Scan.{scanBits}
 use Rattle.lcf.proofs.sets.clip.Statement.{statement}
 use Rattle.lcf.proofs.sets.clip.Tie as tie
 
@@ -9,6 +10,6 @@ pub clip-spec : {M : Type 1} → statement M
 clip-spec =
     tie.close
     (tie.spec (λ c. search needs) (λ c. search needs)
-    (λ c. rw (single 32 (c .args .n) (search needs)) (pow-pos (c .args .n)))
+    (λ c. rw (single scanBits (c .args .n) (search needs)) (pow-pos (c .args .n)))
     (λ c. record { fits = lt-of-le-of-lt (mod-le _ _) (search needs) })
-    (λ c. rw (single 32 (c .args .n) (search needs))))
+    (λ c. rw (single scanBits (c .args .n) (search needs))))

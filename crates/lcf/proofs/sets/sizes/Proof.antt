@@ -1,4 +1,5 @@
 use Rattle.laws.proofs.Rows.{rows}
+use Rattle.frames.specs.Part.{mostPorts}
 use mathlib.Core.Path.{_≡_}
 use Prim.Native.Nat.{_≤_, _-_}
 use lib.Count.{ones}
@@ -8,10 +9,10 @@ use Rattle.lcf.proofs.sets.sizes.Statement.{statement}
 use Rattle.lcf.proofs.sets.sizes.Tie as tie
 
 abbrev Inv-loop : tie.InvT-loop
-Inv-loop rows counts₀ i₀ counts i = (i ≤ 16) × (counts ≡ tabled 16 (λ k. ones (getD rows k 0)) i)
+Inv-loop rows counts₀ i₀ counts i = (i ≤ mostPorts) × (counts ≡ tabled mostPorts (λ k. ones (getD rows k 0)) i)
 
 abbrev μ-loop : tie.MeasureT-loop
-μ-loop rows counts₀ i₀ counts i = 16 - i
+μ-loop rows counts₀ i₀ counts i = mostPorts - i
 
 pub sizes-spec : {M : Type 1} → statement M
 sizes-spec =

@@ -1,4 +1,5 @@
 use Rattle.laws.proofs.Rows.{rows}
+use Rattle.frames.specs.Part.{mostPorts}
 use mathlib.Core.Path.{_≡_}
 use Prim.Native.Nat.{_≤_, _-_, _%_, _^_}
 use lib.ListN.{getD}
@@ -8,7 +9,7 @@ use Rattle.lcf.proofs.sets.within.Statement.{statement}
 use Rattle.lcf.proofs.sets.within.Tie as tie
 
 abbrev Inv-loop : tie.InvT-loop
-Inv-loop n rows table₀ i₀ table i = (i ≤ n) × (table ≡ tabled 16 (λ k. getD rows k 0 % 2 ^ n) i)
+Inv-loop n rows table₀ i₀ table i = (i ≤ n) × (table ≡ tabled mostPorts (λ k. getD rows k 0 % 2 ^ n) i)
 
 abbrev μ-loop : tie.MeasureT-loop
 μ-loop n rows table₀ i₀ table i = n - i

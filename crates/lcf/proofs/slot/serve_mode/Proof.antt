@@ -1,4 +1,5 @@
 use borrow.Author.Needs.{needs}
+use Rattle.frames.specs.Part.{mostPorts}
 use Rattle.lcf.specs.Slot.{serveMode}
 use Rattle.lcf.proofs.Slots.{limit-fits}
 use Rattle.lcf.proofs.slot.serve_mode.Statement.{statement}
@@ -9,6 +10,6 @@ unfolding serveMode
 serve-mode-spec =
     tie.close
     (tie.spec (λ c. search needs) (λ c κs. search needs) (λ c. search needs)
-    (λ c κs. (search needs, limit-fits 16 _ _ (c .before .mode .given .1) (c .before .before .before .pre .1)))
+    (λ c κs. (search needs, limit-fits mostPorts _ _ (c .before .mode .given .1) (c .before .before .before .pre .1)))
     (λ c. rw (c .before .enum-told .given .1, c .central .ensures))
     (λ c. rw (c .before .before .mode .given .1) (c .distributed .ensures)))

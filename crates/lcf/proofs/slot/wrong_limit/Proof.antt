@@ -1,5 +1,6 @@
 use borrow.Author.Needs.{needs}
 use mathlib.Core.Path.{sym, ap}
+use Rattle.frames.specs.Part.{mostPorts}
 use Rattle.lcf.specs.Slot.{wrongLimit}
 use Rattle.lcf.proofs.slot.wrong_limit.Statement.{statement}
 use Rattle.lcf.proofs.slot.wrong_limit.Tie as tie
@@ -9,5 +10,5 @@ unfolding wrongLimit
 wrong-limit-spec =
     tie.close
     (tie.spec (λ c. search needs) (λ c. search needs) (λ c. search needs)
-    (λ c. sym (ap (wrongLimit 16) (c .enum-told .given .1)))
-    (λ c. sym (ap (wrongLimit 16) (c .before .mode .given .1))))
+    (λ c. sym (ap (wrongLimit mostPorts) (c .enum-told .given .1)))
+    (λ c. sym (ap (wrongLimit mostPorts) (c .before .mode .given .1))))

@@ -1,33 +1,34 @@
 use mathlib.Core.Path.{sym, _∙_}
 use borrow.Author.Needs.{needs}
+use Rattle.frames.specs.Part.{mostPorts}
 use Rattle.shelf.proofs.Refusals.{taken}
 use Rattle.shelf.proofs.Stepping.{refused, stuck, served}
 use Rattle.shelf.proofs.by_value.step.Statement.{statement}
 use Rattle.shelf.proofs.by_value.step.Tie as tie
 
 returns : tie.Need-returns
-returns c = refused 16 _ _ _ _ _ _ _ (c .before .before .refusal .ensures) _ (c .before .if1 .taken) (c .declined .ensures)
+returns c = refused mostPorts _ _ _ _ _ _ _ (c .before .before .refusal .ensures) _ (c .before .if1 .taken) (c .declined .ensures)
 
 returns-2 : tie.Need-returns-2
 returns-2 c =
     let ran = c .before .before .before .before in
     let heard = ran .before in
-    stuck 16 _ _ _ _ _ _ _ (heard .before .before .refusal .ensures) (heard .before .if1 .left) _ _ (heard .hear .ensures) (ran .slot-on-hosts .ensures) (c .if2 .taken)
+    stuck mostPorts _ _ _ _ _ _ _ (heard .before .before .refusal .ensures) (heard .before .if1 .left) _ _ (heard .hear .ensures) (ran .slot-on-hosts .ensures) (c .if2 .taken)
 
 returns-3 : tie.Need-returns-3
 returns-3 c =
     let ran = c .before .before .before .before .before .before .before .before in
     let heard = ran .before in
-    served 16 _ _ _ _ _ _ _ (heard .before .before .refusal .ensures) (heard .before .if1 .left) _ _ (heard .hear .ensures) (ran .slot-on-hosts .ensures) _ (c .before .before .before .before .if2 .left) (c .before .before .write-grants .ensures)
+    served mostPorts _ _ _ _ _ _ _ (heard .before .before .refusal .ensures) (heard .before .if1 .left) _ _ (heard .hear .ensures) (ran .slot-on-hosts .ensures) _ (c .before .before .before .before .if2 .left) (c .before .before .write-grants .ensures)
 
 pub step-spec : {M : Type 1} → statement M
 step-spec =
     tie.close
     (tie.spec (λ c κs. search needs) (λ c κs. search needs) (λ c. search needs) returns
-    (λ c κs. taken 16 _ _ _ _ _ (sym (c .before .refusal .ensures) ∙ c .if1 .left) .ports)
+    (λ c κs. taken mostPorts _ _ _ _ _ (sym (c .before .refusal .ensures) ∙ c .if1 .left) .ports)
     (λ c κs. search needs) (λ c. search needs) returns-2
     (λ c κs.
     let heard = c .before .before .before .before .before .before in
-    let t = taken 16 _ _ _ _ _ (sym (heard .before .before .refusal .ensures) ∙ heard .before .if1 .left) in
+    let t = taken mostPorts _ _ _ _ _ (sym (heard .before .before .refusal .ensures) ∙ heard .before .if1 .left) in
     (t .ports, t .room))
     (λ c. search needs) returns-3)

@@ -1,6 +1,7 @@
 use native.Mathlib.Omega.{arith}
 use lib.Count.{trailing-le}
 use borrow.Author.Needs.{needs}
+use Rattle.frames.specs.Part.{mostPorts}
 use Rattle.shelf.specs.Grants.{lowest}
 use Rattle.shelf.proofs.Lowest.{lowest-found}
 use Rattle.shelf.proofs.grants.lowest_target.Statement.{statement}
@@ -11,6 +12,6 @@ unfolding lowest
 lowest-target-spec =
     tie.close
     (tie.spec
-    (λ c. omega (arith, trailing-le 16 (c .before .args .set)))
+    (λ c. omega (arith, trailing-le mostPorts (c .before .args .set)))
     (λ c. (rw (c .if1 .taken), search needs))
-    (λ c. lowest-found 16 (c .before .args .set) (omega arith) (omega arith)))
+    (λ c. lowest-found mostPorts (c .before .args .set) (omega arith) (omega arith)))
