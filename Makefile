@@ -1,7 +1,7 @@
 # make            the proved library and the firmware demo
 # make run        play a shelf; ARGS="ports=8 slots=640" changes it, ARGS=help explains
 # make test       the gate: all proofs, then the Rust and C tests
-# make bench      measure the slot call against a plain Rust slot
+# make bench      measure the slot call against a plain Rust slot; BEFORE=elsewhere/libbellacush.a against that one too
 # make install    library, header and pkg-config file, under DESTDIR and PREFIX
 # make clean      remove everything that was built
 
@@ -23,7 +23,7 @@ HEADER = include/bellacush.h
 SOURCES = crates.txt $(shell find crates -name '*.rt' -o -name '*.antt')
 CARGO = BELLACUSH_ARCHIVE='$(abspath $(LIBRARY))' cargo
 
-.PHONY: all run test test-rust test-c bench install clean
+.PHONY: all run test test-rust test-c bench before install clean
 
 all: $(LIBRARY) build/shelf
 
@@ -60,8 +60,16 @@ test-c: build/calls-c build/calls-cpp build/shelf
 	./build/calls-cpp
 	tests/c/shelf ./build/shelf
 
-bench: $(LIBRARY) $(MEASURED)
-	$(CARGO) run --offline --quiet --release --package bellacush-bench
+# An archive to compare with: only its slot call is seen, under another name, so that both fit into one program.
+BEFORE ?=
+RENAMED = build/before/libbefore.a
+
+before:
+	@mkdir -p $(dir $(RENAMED))
+	objcopy --redefine-sym bellacush_slot=before_slot --keep-global-symbol=before_slot $(BEFORE) $(RENAMED)
+
+bench: $(LIBRARY) $(MEASURED) $(if $(BEFORE),before)
+	$(if $(BEFORE),BELLACUSH_BEFORE='$(abspath $(RENAMED))') $(CARGO) run --offline --quiet --release --package bellacush-bench
 
 install: $(LIBRARY)
 	install -d '$(DESTDIR)$(PREFIX)/include' '$(DESTDIR)$(PREFIX)/lib/pkgconfig'

@@ -1,11 +1,13 @@
 //! The C form measured against a plain Rust slot, in tables for docs/PERFORMANCE.md.
 
+#[cfg(before)]
+mod before;
 mod plain;
 mod stack;
 mod timing;
 mod traces;
 
-use bellacush_tests::calls;
+use bellacush_tests::calls::{self, SlotCall};
 use bellacush_tests::frames::Config;
 use bellacush_tests::traffic::Traffic;
 use std::hint::black_box;
@@ -33,6 +35,8 @@ fn main() {
     checks();
     growth();
     stacks();
+    #[cfg(before)]
+    before::compared();
 }
 
 fn processor() -> String {
@@ -246,15 +250,21 @@ fn stacks() {
     println!("and with plans, cleared votes and spoilt frames.\n");
     println!("| Mode | Bytes |");
     println!("|---|---|");
+    for (mode, limit) in STACK_MODES {
+        println!("| {mode} | {} |", most_stack(calls::SLOT, limit));
+    }
+}
+
+const STACK_MODES: [(&str, u32); 3] = [MODES[0], MODES[1], ("distributed, limit 16", 16)];
+
+fn most_stack(call: SlotCall, limit: u32) -> usize {
     let mixed = Traffic {
         asked: 32,
         planned: 4,
         vote_cleared: 1,
         spoilt: 8,
     };
-    for (mode, limit) in [MODES[0], MODES[1], ("distributed, limit 16", 16)] {
-        let loads = [Traffic::requests(64), Traffic::requests(32), mixed];
-        let most = loads.map(|load| stack::used(&Trace::of(16, limit, load)));
-        println!("| {mode} | {} |", most.into_iter().max().unwrap_or(0));
-    }
+    let loads = [Traffic::requests(64), Traffic::requests(32), mixed];
+    let most = loads.map(|load| stack::used(call, &Trace::of(16, limit, load)));
+    most.into_iter().max().unwrap_or(0)
 }

@@ -1,7 +1,7 @@
 //! How much stack one slot call uses: the call is run on a painted stack of its own, and the
 //! lowest byte that changed is looked for.
 
-use bellacush_tests::calls::{SlotCall, SLOT};
+use bellacush_tests::calls::SlotCall;
 use bellacush_tests::slots::{State, TABLE_LEN};
 use std::arch::asm;
 
@@ -93,7 +93,7 @@ fn depth(stack: &mut Stack, job: &mut Job) -> usize {
 
 /// The most bytes that a slot of the trace takes below its caller's frame, its arguments and
 /// its return address.
-pub fn used(trace: &Trace) -> usize {
+pub fn used(call: SlotCall, trace: &Trace) -> usize {
     let mut stack = Box::new(Stack([0; STACK]));
     let mut most = 0;
     for block in &trace.blocks {
@@ -107,7 +107,7 @@ pub fn used(trace: &Trace) -> usize {
             table: vec![0; TABLE_LEN],
         };
         let frame = depth(&mut stack, &mut job);
-        job.call = SLOT;
+        job.call = call;
         most = most.max(depth(&mut stack, &mut job) - frame);
     }
     most

@@ -77,8 +77,23 @@ pub fn slot(
     out: &mut [u8],
     table: &mut [u8],
 ) -> u32 {
+    slot_by(SLOT, state, slot, mode, block, link, out, table)
+}
+
+/// The same by another archive's slot call.
+#[allow(clippy::too_many_arguments)] // the C form's own
+pub fn slot_by(
+    call: SlotCall,
+    state: &mut [u8],
+    slot: u32,
+    mode: u32,
+    block: &[u8],
+    link: u16,
+    out: &mut [u8],
+    table: &mut [u8],
+) -> u32 {
     unsafe {
-        bellacush_slot(
+        call(
             state.as_mut_ptr(),
             state.len(),
             slot,

@@ -1,0 +1,74 @@
+//! The slot call of an earlier archive beside the one that is built now, in one run.
+
+use bellacush_tests::calls::{self, SlotCall};
+
+use crate::timing::compare;
+use crate::traces::{agree, Player, Trace, FULL, HALF, LIGHT};
+use crate::{micro, most_stack, MODES, STACK_MODES};
+
+extern "C" {
+    fn before_slot(
+        state: *mut u8,
+        state_len: usize,
+        slot: u32,
+        mode: u32,
+        block: *const u8,
+        block_len: usize,
+        link: u16,
+        out: *mut u8,
+        out_len: usize,
+        table: *mut u8,
+        table_len: usize,
+    ) -> u32;
+}
+
+const BEFORE: SlotCall = before_slot;
+
+fn slot_before(
+    state: &mut [u8],
+    slot: u32,
+    mode: u32,
+    block: &[u8],
+    link: u16,
+    out: &mut [u8],
+    table: &mut [u8],
+) -> u32 {
+    calls::slot_by(BEFORE, state, slot, mode, block, link, out, table)
+}
+
+pub fn compared() {
+    println!("\n## Beside the archive before\n");
+    println!("| Ports | Load | Mode | Now, µs | Before, µs | Ratio |");
+    println!("|---|---|---|---|---|---|");
+    for ports in [16, 4, 1] {
+        for load in [FULL, HALF, LIGHT] {
+            for (mode, limit) in MODES {
+                let trace = Trace::new(ports, load, limit);
+                agree(&trace, calls::slot, slot_before);
+                let mut now = Player::new(calls::slot, &trace);
+                let mut before = Player::new(slot_before, &trace);
+                let times = compare(
+                    trace.blocks.len(),
+                    || now.pass(&trace),
+                    || before.pass(&trace),
+                );
+                let (now, before) = (micro(times.ours), micro(times.rust));
+                println!(
+                    "| {ports} | {} | {mode} | {now:.3} | {before:.3} | {:.2} |",
+                    load.name,
+                    times.ratio()
+                );
+            }
+        }
+    }
+    stacks();
+}
+
+fn stacks() {
+    println!("\n| Mode | Stack now, bytes | Before |");
+    println!("|---|---|---|");
+    for (mode, limit) in STACK_MODES {
+        let (now, before) = (most_stack(calls::SLOT, limit), most_stack(BEFORE, limit));
+        println!("| {mode} | {now} | {before} |");
+    }
+}
