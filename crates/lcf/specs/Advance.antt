@@ -1,4 +1,4 @@
--- Rule 7, the advance; and a fresh state.
+-- Rule 7, the advance.
 use Prim.Native.Nat.{_+_, _%_, _^_}
 use mathlib.Core.Bool.{cond}
 use lib.Dec.{eqb}
