@@ -1,3 +1,4 @@
+pub mod Trips
 pub mod Parts
 pub mod Slots
 pub mod Unique

@@ -18,7 +18,7 @@ pub kept : (r : Stepped) (state table : List ℕ) → (r .answer .number ≡ 0 �
 unfolding stateAfter tableAfter
 kept r state table some = rw (ne-eqb _ 0 some) (refl, refl)
 
-length-state : (st : State) → length (stateBytes st) ≡ stateLen
+pub length-state : (st : State) → length (stateBytes st) ≡ stateLen
 unfolding stateBytes bigEndian
 length-state st = refl
 
