@@ -1,11 +1,12 @@
 -- What a writer writes reads back as the same fields; and what reads as some fields is, byte for byte, what the writer
 -- writes of them. So no two frames read alike, and no malformed frame is read.
-use mathlib.Core.Path.{_≡_, sym, ap, _∙_}
+use mathlib.Core.Path.{_≡_, refl, sym, ap, _∙_}
 use mathlib.Core.Bool.{true}
 use mathlib.Core.List.{List}
 use Prim.Native.Nat.{ℕ, _^_, _<_}
-use lib.ListN.{getD, take}
+use lib.ListN.{getD, take, replicate}
 use Rattle.laws.specs.Bytes.{Bytes}
+use Rattle.frames.specs.Frame.{formNumber}
 use Rattle.frames.specs.Config.{configLen, configWidth, configFields, configFrame, configAnswer, readConfig, writeConfigNumber, writeConfigOutput}
 use Rattle.frames.specs.Grant.{grantLen, grantFrame, inForm, grantAnswer, readGrant, writeGrantNumber, writeGrantOutput}
 use Rattle.frames.specs.declared.config.Config.{Config}
@@ -47,3 +48,8 @@ grant-alike s t bs bt g e f = sym (grant-writes s bs g e .0) ∙ grant-writes t 
 -- what is read can be written
 pub grant-in-form : (s : List ℕ) → Bytes s → (g : Grant) → readGrant s ≡ grantAnswer (Granted g) → inForm g ≡ true
 grant-in-form s bytes g e = grant-writes s bytes g e .1
+
+-- a missing frame, eleven zeros, does not read: by its type
+pub zeros-unread : readConfig (replicate configLen 0) .number ≡ 9
+unfolding formNumber
+zeros-unread = refl
