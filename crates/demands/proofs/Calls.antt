@@ -98,11 +98,12 @@ module _ (m : ℕ) (st : State) (c : Call) where
     pub on-time : behind st (c .slot) ≡ 0
     pub advances : r .state ≡ advance st
     pub sets-matched : r .answer .sets ≡ matched st (c .mode) (c .req) (c .pre) .work .held
+    pub rounds-run : r .answer .rounds ≡ matched st (c .mode) (c .req) (c .pre) .rounds
 
   pub served-call : number m st c ≡ 0 → Served (called m st c)
   unfolding declined
   served-call = call-cases (λ r. r .answer .number ≡ 0 → Served r)
-      (λ z e. record { in-order = means .in-order (λ q. omega arith) (λ q. omega arith); on-time = means .on-time z; advances = refl; sets-matched = refl })
+      (λ z e. record { in-order = means .in-order (λ q. omega arith) (λ q. omega arith); on-time = means .on-time z; advances = refl; sets-matched = refl; rounds-run = refl })
       (λ x ne why e. absurd (ne e))
 
   -- a number other than 0 and 12 is the number due

@@ -6,7 +6,9 @@ pub mod SlotConnections
 pub mod SlotGrants
 pub mod SlotRefusal
 pub mod SlotServed
-pub mod LentSlot
+pub mod Started
+pub mod Resent
+pub mod LentHistory
 -- the call on tables
 pub mod Share
 pub mod Connections
@@ -14,6 +16,8 @@ pub mod Refusal
 -- the rules
 pub mod Choice
 pub mod Rules
+pub mod Qen
+pub mod Rounds
 pub mod Hosts
 pub mod Stage
 -- what they rest on
@@ -22,6 +26,7 @@ pub mod SlotHosts
 pub mod Lowest
 pub mod Progress
 pub mod Turns
+pub mod Histories
 pub mod Lawful
 pub mod Keeps
 pub mod Join

@@ -6,12 +6,14 @@ use mathlib.Core.List.{List}
 use Prim.Native.Nat.{ℕ, suc, _≤_, _<_}
 use native.Mathlib.Decide.{ℕ-discrete}
 use native.Mathlib.Omega.{arith}
+use lib.Dec.{eqb}
 use lib.ListN.{length, getD, length-map, length-set}
-use borrow.Author.Tests.{eq-eqb, eqb-false, not-true}
+use borrow.Author.Tests.{eq-eqb, eqb-true, eqb-false, not-true, not-false}
 use Rattle.laws.specs.Sets.{has, asks}
-use Rattle.laws.proofs.Tests.{both, every, either, arms}
+use Rattle.laws.proofs.Tests.{both, every, either, neither, arms}
 use Rattle.laws.proofs.Rows.{length-tabled}
-use Rattle.laws.proofs.Steps.{kept}
+use Rattle.laws.proofs.Members.{has-none}
+use Rattle.laws.proofs.Steps.{upto, kept}
 use Rattle.lcf.specs.Join.{join}
 use Rattle.lcf.specs.Distributed.{askers, grants, offers, accepted, answer, round, anyLive, oneMore, distributed}
 use Rattle.lcf.specs.Slot.{within, start, serveMode, matched}
@@ -23,6 +25,7 @@ use Rattle.lcf.specs.declared.work.Round.{Round}
 use Rattle.lcf.specs.declared.work.Run.{Run}
 use Rattle.shelf.specs.Grants.{lowest}
 use Rattle.shelf.proofs.Lowest.{lowest-in}
+use Rattle.demands.specs.Rounds.{SomeLive}
 use Rattle.demands.specs.Choice.{targetStart, FewestRequests, FewestAskers}
 use Rattle.demands.proofs.Join.{live-left}
 use Rattle.demands.proofs.Keeps.{live-keeps, round-keeps, planned-keeps}
@@ -35,15 +38,24 @@ unfolding join
 live-length s w c = simp (length-map, length-set)
 
 -- a row that is not empty, and one of its targets
-some-row : (live : List ℕ) (n : ℕ) → anyLive live n ≡ true → (i : ℕ) × (getD live i 0 ≡ 0 → ⊥)
-some-row live n = kept _ false (λ k found. found ≡ true → (i : ℕ) × (getD live i 0 ≡ 0 → ⊥)) n
-    (λ k found l before e. ⊎-elim (λ q. (k, eqb-false (getD live k 0) 0 (not-true _ q))) before (either _ _ e)) (λ e. absurd (true≢false (sym e)))
+some-row : (live : List ℕ) (n : ℕ) → anyLive live n ≡ true → (i : ℕ) × (i < n) × (getD live i 0 ≡ 0 → ⊥)
+some-row live n = kept _ false (λ k found. found ≡ true → (i : ℕ) × (i < k) × (getD live i 0 ≡ 0 → ⊥)) n
+    (λ k found l before e. ⊎-elim (λ q. (k, omega arith, eqb-false (getD live k 0) 0 (not-true _ q))) (λ q. let (i, i<, some) = before q in (i, omega arith, some)) (either _ _ e))
+    (λ e. absurd (true≢false (sym e)))
 
-some-request : (live : List ℕ) (n : ℕ) → anyLive live n ≡ true → (i : ℕ) × (t : ℕ) × (asks live i t ≡ true)
-some-request live n any =
-    let (i, some) = some-row live n any in
+pub some-live : (live : List ℕ) (n : ℕ) → anyLive live n ≡ true → SomeLive n live
+some-live live n any =
+    let (i, i<, some) = some-row live n any in
     let row = getD live i 0 in
-    (i, lowest row row, lowest-in row row (omega arith) (below-power row))
+    record { initiator = i; target = lowest row row; below = i<; asked = lowest-in row row (omega arith) (below-power row) }
+
+pub none-live : (live : List ℕ) (n : ℕ) → anyLive live n ≡ false → SomeLive n live → ⊥
+none-live live n none l = true≢false (sym (l .asked) ∙ ap (λ s. has s (l .target)) (empty (l .initiator) (l .below)) ∙ has-none (l .target))
+  where
+    empty : (i : ℕ) → i < n → getD live i 0 ≡ 0
+    empty = kept _ false (λ k found. found ≡ false → (i : ℕ) → i < k → getD live i 0 ≡ 0) n
+        (λ k found l before e. let (row, rest) = neither (not (eqb (getD live k 0) 0)) found e in upto (λ i. getD live i 0 ≡ 0) k (before rest) (eqb-true _ 0 (not-false _ row)))
+        (λ e i l. absurd (omega arith)) none
 
 module _ (st : State) where
   -- there is a row for each port, and what is live is of the ports
@@ -69,22 +81,25 @@ module _ (st : State) where
       live : List ℕ
       live = s .live
 
-      t : ℕ
-      t = some-request live (st .ports) any .1
+      some : SomeLive (st .ports) live
+      some = some-live live (st .ports) any
 
-      inside : (some-request live (st .ports) any .0 < st .ports) × (t < st .ports)
-      inside = h .inside _ t (some-request live (st .ports) any .2)
+      t : ℕ
+      t = some .target
+
+      t< : t < st .ports
+      t< = h .inside _ t (some .asked) .1
 
       -- whom target t grants
       w : ℕ
       w = getD (grants st live) t 0
 
       chosen : FewestRequests live (st .ports) t (targetStart st t) w
-      chosen = grants-chosen st live (h .rows) t _ (inside .1) (inside .0) (some-request live (st .ports) any .2)
+      chosen = grants-chosen st live (h .rows) t _ t< (some .below) (some .asked)
 
       -- and what that initiator accepts
       takes : FewestAskers st live w (accepted st (askers st live) (offers st live (grants st live) w) w)
-      takes = accepted-chosen st live (h .rows) w t (inside .1) (every (chosen .asks-too) (eq-eqb w w refl))
+      takes = accepted-chosen st live (h .rows) w t t< (every (chosen .asks-too) (eq-eqb w w refl))
 
       next : (k : ℕ) (r : Round) → k < st .ports → (w < k → r .joined ≡ true) → w < suc k → answer st live (askers st live) (grants st live) k r .joined ≡ true
       next k r l before m = arms (λ (r : Round). r .joined ≡ true) (has (offers st live (grants st live) k) (accepted st (askers st live) (offers st live (grants st live) k) k)) _ _

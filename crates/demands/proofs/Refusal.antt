@@ -1,17 +1,19 @@
 -- Refusal: what a declined call leaves, and which slots are declined with 3 and 4.
-use mathlib.Core.Path.{_≡_, refl, _∙_}
+use mathlib.Core.Path.{_≡_, refl}
 use mathlib.Core.Logic.{_⊎_, inl, inr, _↔_}
-use Prim.Native.Nat.{ℕ, _^_, _≤_, _<_}
+use Prim.Native.Nat.{ℕ, _+_, _^_, _≤_, _<_}
+use native.Mathlib.Nat.{mod-lt}
 use native.Mathlib.Decide.{decLe}
 use native.Mathlib.Omega.{arith}
+use lib.Dec.{lit<}
 use borrow.Author.Tests.{lt-ltb, le-leb, lt-leb}
 use Rattle.lcf.specs.Advance.{advance}
 use Rattle.lcf.specs.Slot.{behind, declined}
 use Rattle.lcf.specs.declared.state.State.{State}
-use Rattle.demands.specs.Call.{Call, called, next, number}
-use Rattle.demands.specs.Refusal.{InOrder, Nothing}
+use Rattle.demands.specs.Call.{Call, called, number}
+use Rattle.demands.specs.Refusal.{InOrder, Valid, Nothing}
 use Rattle.demands.proofs.Calls.{means, ordered, call-cases, due-exactly, served-call}
-use Rattle.demands.proofs.Turns.{advance-below, advance-ports}
+use Rattle.demands.proofs.Turns.{advance-below}
 
 module _ (m : ℕ) (st : State) (c : Call) where
   -- A declined call leaves the state as it was and connects nobody.
@@ -59,18 +61,9 @@ module _ (m : ℕ) (st : State) (c : Call) where
         go (yes h) = inl (stale .1 (o, omega (arith, some), h))
         go (no h) = inr (early .1 (o, omega arith))
 
-advance-in-order : (m : ℕ) (st : State) → InOrder m st → InOrder m (advance st)
-advance-in-order m st o =
-    record { some-port = rw (advance-ports st) (o .some-port); most-ports = rw (advance-ports st) (o .most-ports); offsets = advance-below st (o .offsets) }
-
-one-behind : (st : State) (slot : ℕ) → st .due < 2 ^ 32 → slot ≡ st .due → behind (advance st) slot ≡ 1
-unfolding behind advance
-one-behind st slot due< e = omega arith
-
--- A slot that was served is declined with 3 when it comes again, whatever the mode and the tables.
-pub resent-stale : (m : ℕ) (st : State) (c again : Call) → c .slot < 2 ^ 32 → st .due < 2 ^ 32
-    → number m st c ≡ 0 → again .slot ≡ c .slot → number m (next m st c) again ≡ 3
-resent-stale m st c again slot< due< e same =
-    let s = served-call m st c e in
-    let b = one-behind st (again .slot) due< (same ∙ served-when-due m st c slot< due< e) in
-    rw (s .advances) (stale m (advance st) again .1 (advance-in-order m st (s .in-order), omega arith, omega arith))
+pub advance-valid : (m : ℕ) (st : State) → InOrder m st → Valid m (advance st)
+unfolding advance
+advance-valid m st o = record {
+  in-order = record { some-port = o .some-port; most-ports = o .most-ports; offsets = advance-below st (o .offsets) };
+  due-small = mod-lt (st .due + 1) (lit< tt);
+}

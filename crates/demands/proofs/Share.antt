@@ -14,7 +14,7 @@ use Rattle.lcf.specs.declared.state.Mode.{Mode}
 use Rattle.lcf.specs.declared.work.Work.{Work}
 use Rattle.demands.specs.Origin.{Live, Alone}
 use Rattle.demands.specs.Call.{Call, next, sets, served}
-use Rattle.demands.specs.History.{Below, howMany, InEach, quota, Fair}
+use Rattle.demands.specs.History.{Below, howMany, InServed, quota, ByValue, Moves, Fair}
 use Rattle.demands.specs.Share.{connects, Waits, Waiting}
 use Rattle.demands.proofs.Connections.{nothing-from-nowhere}
 use Rattle.demands.proofs.Join.{held-still, held-now}
@@ -22,7 +22,7 @@ use Rattle.demands.proofs.Keeps.{mode-favours}
 use Rattle.demands.proofs.Stage.{start-rows, start-live}
 use Rattle.demands.proofs.Calls.{served-call}
 use Rattle.demands.proofs.Refusal.{declined-does-nothing}
-use Rattle.demands.proofs.Turns.{fair-share}
+use Rattle.demands.proofs.Turns.{fair-share, by-value}
 
 -- a waiting pair is live after the planned stage
 waits-live : (st : State) (req pre : List ℕ) (i t : ℕ) → i < st .ports → t < st .ports → Waits (st .ports) req pre i t → Live st req pre i t
@@ -55,11 +55,16 @@ favoured st mode req pre b w = mode-favours (λ u. asks (u .held) i t ≡ true) 
     row : i < length (s .held)
     row = rw start-rows (asks-row req i t (w .asked))
 
-pub tables-fair : (m i t : ℕ) → Fair (next m) (served m) (connects m i t) (Waiting i t) i t
+tables-move : (m : ℕ) → Moves (λ st. st) ByValue (next m) (served m)
+tables-move m = record {
+  declined-keeps = λ st c k e. declined-does-nothing m st c (eqb-false _ 0 e) .state-kept;
+  served-advances = λ st c k e. served-call m st c (eqb-true _ 0 e) .advances;
+}
+
+pub tables-fair : (m i t : ℕ) → Fair (λ st. st) ByValue (next m) (served m) (connects m i t) (Waiting i t) i t
 tables-fair m i t = record {
-  declined-keeps = λ st c e. declined-does-nothing m st c (eqb-false _ 0 e) .state-kept;
-  served-advances = λ st c e. served-call m st c (eqb-true _ 0 e) .advances;
-  favours = λ st c e w ei et.
+  moves = tables-move m;
+  favours = λ st c k e w ei et.
       let r = served-call m st c (eqb-true _ 0 e) in
       let hit = favoured st (c .mode) (c .req) (c .pre) (r .in-order .offsets) (subst₂ (Waits (st .ports) (c .req) (c .pre)) (sym ei) (sym et) w) in
       rw (e, r .sets-matched) (subst₂ (λ x y. asks (matched st (c .mode) (c .req) (c .pre) .work .held) x y ≡ true) ei et hit);
@@ -67,9 +72,9 @@ tables-fair m i t = record {
 
 -- Of W served calls in a history, in each of which the pair (i, t) waits, W / n² or more connect it. Declined calls may stand between them,
 -- modes and limits may change from call to call, and the history may begin at any state with offsets below n.
-pub share : (m i t : ℕ) (st : State) (calls : List Call) → Below st → i < st .ports → t < st .ports → InEach (next m) (served m) (Waiting i t) st calls
+pub share : (m i t : ℕ) (st : State) (calls : List Call) → Below st → i < st .ports → t < st .ports → InServed (next m) (served m) (Waiting i t) st calls
     → quota (st .ports) (howMany (next m) (served m) st calls) ≤ howMany (next m) (connects m i t) st calls
-share m i t = fair-share (tables-fair m i t)
+share m i t st calls = fair-share (tables-fair m i t) st calls (by-value (next m) calls st)
 
 -- And when it is connected, it is all that its initiator holds.
 pub waiting-alone : (m : ℕ) (st : State) (c : Call) (i t : ℕ) → Waiting i t st c → asks (sets m st c) i t ≡ true → Alone (sets m st c) i t

@@ -47,7 +47,7 @@ module _ (m : ℕ) (most : m ≤ mostPorts) (st : State) (c : SlotCall) (done : 
   abbrev row : ℕ → ℕ
   row i = getD (sets m st c) i 0
 
-  row-small : (i : ℕ) → row i < 2 ^ m
+  pub row-small : (i : ℕ) → row i < 2 ^ m
   row-small i = small m (row i) (λ k e.
       let from = nothing-from-nowhere m st c i k e .1 in
       let k< : k < st .ports = ⊎-elim (λ g. g .target) (λ l. l .0 .target) from in

@@ -6,24 +6,31 @@ use mathlib.Core.List.{List}
 use Prim.Native.Nat.{ℕ, _+_, _*_, _≤_, _<_}
 use native.Mathlib.Nat.{mod-lt}
 use native.Mathlib.Omega.{arith}
-use lib.ListN.{length, getD}
+use lib.ListN.{length, getD, replicate}
 use borrow.Author.Tests.{eqb-true, eq-eqb, le-ltb, lt-leb}
 use Rattle.laws.specs.Sets.{has, asks, tabled}
 use Rattle.laws.proofs.Tests.{refuted}
 use Rattle.laws.proofs.Members.{gathered-has, has-gathered}
 use Rattle.laws.proofs.Rows.{row-tabled}
 use Rattle.frames.specs.Frame.{Answer}
-use Rattle.frames.specs.Config.{configLen}
+use Rattle.frames.specs.Config.{configLen, readConfig}
 use Rattle.frames.specs.Part.{hostNumber}
 use Rattle.frames.specs.declared.config.Config.{Config}
+use Rattle.frames.proofs.Trips.{zeros-unread}
 use Rattle.lcf.specs.Heard.{present, counted}
 use Rattle.lcf.specs.declared.state.State.{State}
 use Rattle.shelf.specs.Hosts.{said, isHeard, fieldOf, hostsOf}
 use Rattle.demands.specs.Origin as tables
 use Rattle.demands.specs.Share as tables-share
 use Rattle.demands.specs.Choice.{targetStart}
-use Rattle.demands.specs.Block.{says, Heard, Requests, Plans, Enabled, Waits, Given, Live}
+use Rattle.demands.specs.Block.{framePart, says, Heard, Requests, Plans, Enabled, Waits, Given, Live}
 use Rattle.demands.proofs.Hosts.{present-exactly, counted-asks, asks-counted}
+
+-- A missing frame, eleven zeros, is unheard.
+pub missing-unheard : (block : List ℕ) (h : ℕ) → framePart block h ≡ replicate configLen 0 → Heard block h → ⊥
+missing-unheard block h missing heard =
+    let nine = sym (ap (λ (s : List ℕ). readConfig s .number) missing ∙ zeros-unread) in
+    omega arith
 
 -- a block of n frames, on a shelf of at most m ports
 pub record Whole (m n : ℕ) (block : List ℕ) : Type 0 where

@@ -1,18 +1,17 @@
 -- Refusal on frames: what a declined slot call leaves, and which slots are declined with 3 and 4.
-use mathlib.Core.Path.{_≡_, refl, sym, ap, subst}
+use mathlib.Core.Path.{_≡_, refl}
 use mathlib.Core.Logic.{_⊎_, inl, inr, ⊎-elim, _↔_, Iff·trans}
 use Prim.Native.Nat.{ℕ, _^_, _≤_, _<_}
 use native.Mathlib.Omega.{arith}
 use borrow.Author.Tests.{ne-eqb}
 use Rattle.lcf.specs.Slot.{behind, declined}
 use Rattle.lcf.specs.declared.state.State.{State}
-use Rattle.lcf.specs.declared.work.Stepped.{Stepped}
 use Rattle.shelf.specs.Step.{output}
 use Rattle.demands.specs.Call as tables
 use Rattle.demands.specs.Refusal.{InOrder, Nothing}
-use Rattle.demands.specs.SlotCall.{SlotCall, called, next, number, outputAfter, onTables}
+use Rattle.demands.specs.SlotCall.{SlotCall, called, number, outputAfter, onTables}
 use Rattle.demands.proofs.Refusal as on-tables
-use Rattle.demands.proofs.SlotCalls.{slot-cases, as-on-tables, same-number, first-numbers}
+use Rattle.demands.proofs.SlotCalls.{slot-cases, same-number, first-numbers}
 
 module _ (m : ℕ) (st : State) (c : SlotCall) where
   -- A declined call of any kind leaves the state and every byte of the output as they were, and connects nobody.
@@ -46,11 +45,3 @@ module _ (m : ℕ) (st : State) (c : SlotCall) where
     -- With the state in order, any other is declined with 3 or 4.
     pub other-declined : InOrder m st → (c .slot ≡ st .due → ⊥) → (number m st c ≡ 3) ⊎ (number m st c ≡ 4)
     other-declined o other = ⊎-elim (λ e. inl (same-three .1 e)) (λ e. inr (same-four .1 e)) (on-tables.other-declined m st (onTables m st c) slot< due< o other)
-
--- A slot that was served is declined with 3 when it comes again, whatever the mode, the block and the output.
-pub resent-stale : (m : ℕ) (st : State) (c again : SlotCall) → c .slot < 2 ^ 32 → st .due < 2 ^ 32
-    → number m st c ≡ 0 → again .slot ≡ c .slot → number m (next m st c) again ≡ 3
-resent-stale m st c again slot< due< e same =
-    let retry = onTables m (next m st c) again in
-    let declined = on-tables.resent-stale m st (onTables m st c) retry slot< due< (same-number m st c e) same in
-    same-three m (next m st c) again .1 (subst (λ (x : State). tables.number m x retry ≡ 3) (ap (λ (r : Stepped). r .state) (sym (as-on-tables m st c e))) declined)

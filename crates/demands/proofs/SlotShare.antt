@@ -8,14 +8,14 @@ use Rattle.laws.specs.Sets.{asks}
 use Rattle.laws.proofs.Tests.{both}
 use Rattle.frames.specs.Part.{mostPorts}
 use Rattle.lcf.specs.declared.state.State.{State}
-use Rattle.demands.specs.History.{Below, howMany, InEach, quota, Fair}
+use Rattle.demands.specs.History.{Below, howMany, InServed, quota, ByValue, Moves, Fair}
 use Rattle.demands.specs.Origin.{Alone}
 use Rattle.demands.specs.Call as tables
 use Rattle.demands.specs.SlotCall.{SlotCall, next, number, sets, served, outputAfter, onTables}
 use Rattle.demands.specs.SlotShare.{names, connects, Waiting}
 use Rattle.demands.proofs.Calls.{served-call}
 use Rattle.demands.proofs.Share.{tables-fair, waiting-alone}
-use Rattle.demands.proofs.Turns.{fair-share}
+use Rattle.demands.proofs.Turns.{fair-share, by-value}
 use Rattle.demands.proofs.SlotCalls.{whole, same-number, same-sets}
 use Rattle.demands.proofs.SlotHosts.{waits-on-tables}
 use Rattle.demands.proofs.SlotGrants.{alone-named}
@@ -31,14 +31,19 @@ waiting-named m most st c i t i< done w e =
     let alone : Alone (sets m st c) i t = λ u q. only u (ap (λ s. asks s i u) (sym same) ∙ q) in
     (alone, alone-named m most st c done i i< t e alone)
 
-slots-fair : (m : ℕ) → m ≤ mostPorts → (i t : ℕ) → Fair (next m) (served m) (connects m i t) (Waiting i t) i t
+pub slots-move : (m : ℕ) → Moves (λ st. st) ByValue (next m) (served m)
+slots-move m = record {
+  declined-keeps = λ st c k e. declined-does-nothing m st c (eqb-false _ 0 e) .0 .state-kept;
+  served-advances = λ st c k e. served-advances m st c (eqb-true _ 0 e);
+}
+
+pub slots-fair : (m : ℕ) → m ≤ mostPorts → (i t : ℕ) → Fair (λ st. st) ByValue (next m) (served m) (connects m i t) (Waiting i t) i t
 slots-fair m most i t = record {
-  declined-keeps = λ st c e. declined-does-nothing m st c (eqb-false _ 0 e) .0 .state-kept;
-  served-advances = λ st c e. served-advances m st c (eqb-true _ 0 e);
-  favours = λ st c e w ei et.
+  moves = slots-move m;
+  favours = λ st c k e w ei et.
       let done = eqb-true (number m st c) 0 e in
       let i< : i < st .ports = subst (λ (x : ℕ). x < st .ports) ei (served-call m st (onTables m st c) (same-number m st c done) .in-order .offsets .initiator) in
-      let hit = tables-fair m i t .favours st (onTables m st c) (eq-eqb _ 0 (same-number m st c done)) (waits-on-tables (whole m st c done) i t i< w) ei et in
+      let hit = tables-fair m i t .favours st (onTables m st c) tt (eq-eqb _ 0 (same-number m st c done)) (waits-on-tables (whole m st c done) i t i< w) ei et in
       let held : asks (sets m st c) i t ≡ true = ap (λ s. asks s i t) (same-sets m st c done) ∙ both (tables.served m st (onTables m st c)) _ hit .1 in
       rw (e, held, waiting-named m most st c i t i< done w held .1);
 }
@@ -46,6 +51,6 @@ slots-fair m most i t = record {
 -- Of W served slot calls in a history, in each of which the pair (i, t) waits, W / n² or more connect it. Declined calls may stand between
 -- them, modes and limits may change from call to call, and the history may begin at any state with offsets below n.
 pub share : (m : ℕ) → m ≤ mostPorts → (i t : ℕ) (st : State) (calls : List SlotCall) → Below st → i < st .ports → t < st .ports
-    → InEach (next m) (served m) (Waiting i t) st calls
+    → InServed (next m) (served m) (Waiting i t) st calls
     → quota (st .ports) (howMany (next m) (served m) st calls) ≤ howMany (next m) (connects m i t) st calls
-share m most i t = fair-share (slots-fair m most i t)
+share m most i t st calls = fair-share (slots-fair m most i t) st calls (by-value (next m) calls st)

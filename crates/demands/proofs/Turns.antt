@@ -12,7 +12,7 @@ use borrow.Author.Tests.{ne-eqb}
 use Rattle.laws.proofs.Tests.{arms}
 use Rattle.lcf.specs.Advance.{advance}
 use Rattle.lcf.specs.declared.state.State.{State}
-use Rattle.demands.specs.History.{Below, howMany, InEach, quota, Fair}
+use Rattle.demands.specs.History.{Below, howMany, InEach, InServed, quota, ByValue, Fair}
 
 -- ---- the offsets as one number
 
@@ -105,14 +105,19 @@ comes-nearer N p p′ q d q< (d<, inl a) (inr e) = absurd (omega arith)
 comes-nearer N p p′ q d q< (d<, inr a) (inl e) = (omega arith, inr (omega arith))
 comes-nearer N p p′ q d q< (d<, inr a) (inr e) = (omega arith, inl (omega arith))
 
-module _ {C : Type 0} {next : State → C → State} {served connects : State → C → Bool} {Waiting : State → C → Type 0} {i t : ℕ}
-    (fair : Fair next served connects Waiting i t) where
+pub by-value : {S C : Type 0} (next : S → C → S) (calls : List C) (st : S) → InEach next ByValue st calls
+unfolding InEach
+by-value next [] st = tt
+by-value next (c ∷ calls) st = (tt, by-value next calls (next st c))
+
+module _ {S C : Type 0} {view : S → State} {Kept : S → C → Type 0} {next : S → C → S} {served connects : S → C → Bool} {Waiting : S → C → Type 0} {i t : ℕ}
+    (fair : Fair view Kept next served connects Waiting i t) where
   -- with the pair's turn d turns ahead
-  bound : (n : ℕ) → i < n → t < n → (calls : List C) (st : State) (d : ℕ) → st .ports ≡ n → Below st → Ahead (n * n) (turn st) (t * n + i) d
-      → InEach next served Waiting st calls → howMany next served st calls ≤ howMany next connects st calls * (n * n) + d
+  bound : (n : ℕ) → i < n → t < n → (calls : List C) (st : S) (d : ℕ) → view st .ports ≡ n → Below (view st) → Ahead (n * n) (turn (view st)) (t * n + i) d
+      → InEach next Kept st calls → InServed next served Waiting st calls → howMany next served st calls ≤ howMany next connects st calls * (n * n) + d
   unfolding howMany InEach
-  bound n i< t< [] st d p b a w = omega arith
-  bound n i< t< (c ∷ calls) st d p b a w = go (served st c) refl d a (λ d′ p′ b′ a′. bound n i< t< calls (next st c) d′ p′ b′ a′ (w .1))
+  bound n i< t< [] st d p b a k w = omega arith
+  bound n i< t< (c ∷ calls) st d p b a k w = go (served st c) refl d a (λ d′ p′ b′ a′. bound n i< t< calls (next st c) d′ p′ b′ a′ (k .1) (w .1))
     where
       q : ℕ
       q = t * n + i
@@ -120,8 +125,8 @@ module _ {C : Type 0} {next : State → C → State} {served connects : State �
       q< : q < n * n
       q< = turn-below n i t i< t<
 
-      here< : turn st < n * n
-      here< = rw (← p) (turn-in st b)
+      here< : turn (view st) < n * n
+      here< = rw (← p) (turn-in (view st) b)
 
       W : ℕ
       W = howMany next served (next st c) calls
@@ -129,40 +134,39 @@ module _ {C : Type 0} {next : State → C → State} {served connects : State �
       H : ℕ
       H = howMany next connects (next st c) calls
 
-      go : (s : Bool) → served st c ≡ s → (d : ℕ) → Ahead (n * n) (turn st) q d
-          → ((d′ : ℕ) → next st c .ports ≡ n → Below (next st c) → Ahead (n * n) (turn (next st c)) q d′ → W ≤ H * (n * n) + d′)
+      go : (s : Bool) → served st c ≡ s → (d : ℕ) → Ahead (n * n) (turn (view st)) q d
+          → ((d′ : ℕ) → view (next st c) .ports ≡ n → Below (view (next st c)) → Ahead (n * n) (turn (view (next st c))) q d′ → W ≤ H * (n * n) + d′)
           → cond s 1 0 + W ≤ (cond (connects st c) 1 0 + H) * (n * n) + d
       go false e d a rest =
-          let kept = fair .declined-keeps st c e in
-          let r = rest d (rw kept p) (rw kept b) (rw kept a) in
+          let same = fair .moves .declined-keeps st c (k .0) e in
+          let r = rest d (rw same p) (rw same b) (rw same a) in
           omega arith
       go true e d a rest = come d a
         where
-          moved : next st c ≡ advance st
-          moved = fair .served-advances st c e
+          moved : view (next st c) ≡ advance (view st)
+          moved = fair .moves .served-advances st c (k .0) e
 
-          later : (d′ : ℕ) → Ahead (n * n) (turn (next st c)) q d′ → W ≤ H * (n * n) + d′
-          later d′ = rest d′ (rw (moved, advance-ports) p) (rw moved (advance-below st b))
+          later : (d′ : ℕ) → Ahead (n * n) (turn (view (next st c))) q d′ → W ≤ H * (n * n) + d′
+          later d′ = rest d′ (rw (moved, advance-ports) p) (rw moved (advance-below (view st) b))
 
-          follows : Follows (n * n) (turn st) (turn (next st c))
-          follows = rw (moved, ← p) (advance-turn st b)
+          follows : Follows (n * n) (turn (view st)) (turn (view (next st c)))
+          follows = rw (moved, ← p) (advance-turn (view st) b)
 
-          come : (d : ℕ) → Ahead (n * n) (turn st) q d → 1 + W ≤ (cond (connects st c) 1 0 + H) * (n * n) + d
+          come : (d : ℕ) → Ahead (n * n) (turn (view st)) q d → 1 + W ≤ (cond (connects st c) 1 0 + H) * (n * n) + d
           come zero a =
-              let here : turn st ≡ q = has-come (n * n) (turn st) q here< a in
-              let (x, y) = turn-pair st i t b (rw p i<) (here ∙ ap (λ x. t * x + i) (sym p)) in
-              let hit : connects st c ≡ true = fair .favours st c e (w .0 e) x y in
-              rw hit (omega (arith, later (n * n - 1) (comes-again (n * n) (turn st) _ q here< here follows)))
-          come (suc d) a = omega (arith, later d (comes-nearer (n * n) (turn st) _ q d q< a follows))
+              let here : turn (view st) ≡ q = has-come (n * n) (turn (view st)) q here< a in
+              let (x, y) = turn-pair (view st) i t b (rw p i<) (here ∙ ap (λ x. t * x + i) (sym p)) in
+              let hit : connects st c ≡ true = fair .favours st c (k .0) e (w .0 e) x y in
+              rw hit (omega (arith, later (n * n - 1) (comes-again (n * n) (turn (view st)) _ q here< here follows)))
+          come (suc d) a = omega (arith, later d (comes-nearer (n * n) (turn (view st)) _ q d q< a follows))
 
-  -- of W served calls, in each of which the pair waits, W / n² or more connect it
-  pub fair-share : (st : State) (calls : List C) → Below st → i < st .ports → t < st .ports → InEach next served Waiting st calls
-      → quota (st .ports) (howMany next served st calls) ≤ howMany next connects st calls
-  fair-share st calls b i< t< w =
-      let q< = turn-below (st .ports) i t i< t< in
-      let N = st .ports * st .ports in
-      let (d, a) = ahead N (turn st) (t * st .ports + i) (turn-in st b) q< in
-      let most = bound (st .ports) i< t< calls st d refl b a w in
-      let some : 0 < N = omega arith in
-      let less : howMany next served st calls < (howMany next connects st calls + 1) * N = omega arith in
+  -- of W served calls, in each of which the pair waits, W / n² or more connect it, if each call kept its promise
+  pub fair-share : (st : S) (calls : List C) → InEach next Kept st calls → Below (view st) → i < view st .ports → t < view st .ports
+      → InServed next served Waiting st calls → quota (view st .ports) (howMany next served st calls) ≤ howMany next connects st calls
+  fair-share st calls k b i< t< w =
+      let n = view st .ports in
+      let (d, a) = ahead (n * n) (turn (view st)) (t * n + i) (turn-in (view st) b) (turn-below n i t i< t<) in
+      let most = bound n i< t< calls st d refl b a k w in
+      let some : 0 < n * n = omega (arith, turn-below n i t i< t<) in
+      let less : howMany next served st calls < (howMany next connects st calls + 1) * (n * n) = omega arith in
       omega (arith, div-lt-iff-lt-mul some .1 less)

@@ -3,7 +3,7 @@ use mathlib.Core.Path.{_≡_}
 use mathlib.Core.Bool.{true}
 use mathlib.Core.List.{List}
 use Prim.Native.Nat.{ℕ, _*_, _<_}
-use lib.ListN.{take, drop}
+use lib.ListN.{length, take, drop}
 use Rattle.laws.specs.Sets.{has}
 use Rattle.frames.specs.Frame.{Answer}
 use Rattle.frames.specs.Config.{configLen, readConfig}
@@ -12,9 +12,13 @@ use Rattle.lcf.specs.Choice.{place}
 use Rattle.lcf.specs.declared.state.State.{State}
 use Rattle.demands.specs.Choice.{targetStart}
 
--- what the frame of host h reads as: the number, 0 if the frame is correct, and the fields
+-- the bytes of the frame of host h
+abbrev pub framePart : List ℕ → ℕ → List ℕ
+framePart block h = take configLen (drop (h * configLen) block)
+
+-- what it reads as: the number, 0 if the frame is correct, and the fields
 abbrev pub says : List ℕ → ℕ → Answer Config
-says block h = readConfig (take configLen (drop (h * configLen) block))
+says block h = readConfig (framePart block h)
 
 -- rule 1: host h is heard
 abbrev pub Heard : List ℕ → ℕ → Type 0
@@ -62,3 +66,15 @@ pub record Live (st : State) (block : List ℕ) (i t : ℕ) : Type 0 where
   pub asked : Requests block i t
   pub given-none : (u : ℕ) → Given st block i u → ⊥
   pub given-to-none : (j : ℕ) → Given st block j t → ⊥
+
+-- two frames, both correct or neither, say the same but for qen
+pub record AllButQen (a b : Answer Config) : Type 0 where
+  pub same-number : a .number ≡ b .number
+  pub same-req : a .fields .req ≡ b .fields .req
+  pub same-pre : a .fields .pre ≡ b .fields .pre
+  pub same-ben : a .fields .ben ≡ b .fields .ben
+
+-- rule 2: two blocks of one length differ in qen alone, host by host
+pub record QenAlone (n : ℕ) (a b : List ℕ) : Type 0 where
+  pub same-length : length a ≡ length b
+  pub each : (h : ℕ) → h < n → AllButQen (says a h) (says b h)

@@ -1,4 +1,6 @@
--- A history of calls on one state, over any kind C of call: `next` is the state that a call leaves to the one after it.
+-- A history of calls on one state, over any kind S of state and any kind C of call: `next` is the state that a call leaves to the one after
+-- it. A call may be one that was seen, with what it left: `Kept` then says that it kept its promise on a state. A state may be lent as bytes:
+-- `view` then says which state they are.
 use mathlib.Core.Path.{_≡_}
 use mathlib.Core.Bool.{Bool, true, false, cond}
 use mathlib.Core.List.{List, [], _∷_}
@@ -11,23 +13,40 @@ pub record Below (st : State) : Type 0 where
   pub initiator : st .initiator .0 < st .ports
   pub target : st .target .0 < st .ports
 
+-- the state that the calls leave
+unfoldable pub after : {S C : Type 0} → (S → C → S) → S → List C → S
+after next st [] = st
+after next st (c ∷ calls) = after next (next st c) calls
+
 -- how many of the calls have p, the first of them being made on st
-unfoldable pub howMany : {C : Type 0} → (State → C → State) → (State → C → Bool) → State → List C → ℕ
+unfoldable pub howMany : {S C : Type 0} → (S → C → S) → (S → C → Bool) → S → List C → ℕ
 howMany next p st [] = 0
 howMany next p st (c ∷ calls) = cond (p st c) 1 0 + howMany next p (next st c) calls
 
--- Q holds of each of the calls that has p
-unfoldable pub InEach : {C : Type 0} → (State → C → State) → (State → C → Bool) → (State → C → Type 0) → State → List C → Type 0
-InEach next p Q st [] = Unit {0}
-InEach next p Q st (c ∷ calls) = (p st c ≡ true → Q st c) × InEach next p Q (next st c) calls
+-- Q holds of each of the calls; and of each that is served
+unfoldable pub InEach : {S C : Type 0} → (S → C → S) → (S → C → Type 0) → S → List C → Type 0
+InEach next Q st [] = Unit {0}
+InEach next Q st (c ∷ calls) = Q st c × InEach next Q (next st c) calls
+
+abbrev pub InServed : {S C : Type 0} → (S → C → S) → (S → C → Bool) → (S → C → Type 0) → S → List C → Type 0
+InServed next served Q = InEach next (λ st c. served st c ≡ true → Q st c)
 
 -- the share of one pair of n² in so many slots
 abbrev pub quota : ℕ → ℕ → ℕ
 quota n slots = slots / (n * n)
 
--- what the share of the pair (i, t) asks of a kind of call: a declined call keeps the state, a served one advances it (rule 7),
--- and a served call connects the pair if it waits and is the favoured one
-pub record Fair {C : Type 0} (next : State → C → State) (served connects : State → C → Bool) (Waiting : State → C → Type 0) (i t : ℕ) : Type 0 where
-  pub declined-keeps : (st : State) (c : C) → served st c ≡ false → next st c ≡ st
-  pub served-advances : (st : State) (c : C) → served st c ≡ true → next st c ≡ advance st
-  pub favours : (st : State) (c : C) → served st c ≡ true → Waiting st c → st .initiator .0 ≡ i → st .target .0 ≡ t → connects st c ≡ true
+-- a call by value leaves what it promises
+abbrev pub ByValue : {S C : Type 0} → S → C → Type 0
+ByValue st c = Unit {0}
+
+-- what is asked of a kind of call that keeps its promise: a declined one keeps the state, and a served one advances it (rule 7)
+pub record Moves {S C : Type 0} (view : S → State) (Kept : S → C → Type 0) (next : S → C → S) (served : S → C → Bool) : Type 0 where
+  pub declined-keeps : (st : S) (c : C) → Kept st c → served st c ≡ false → view (next st c) ≡ view st
+  pub served-advances : (st : S) (c : C) → Kept st c → served st c ≡ true → view (next st c) ≡ advance (view st)
+
+-- what the share of the pair (i, t) asks besides: a served call connects the pair if it waits and is the favoured one
+pub record Fair {S C : Type 0} (view : S → State) (Kept : S → C → Type 0) (next : S → C → S) (served connects : S → C → Bool) (Waiting : S → C → Type 0)
+    (i t : ℕ) : Type 0 where
+  pub moves : Moves view Kept next served
+  pub favours : (st : S) (c : C) → Kept st c → served st c ≡ true → Waiting st c → view st .initiator .0 ≡ i → view st .target .0 ≡ t
+      → connects st c ≡ true

@@ -3,12 +3,14 @@ pub mod SlotCall
 pub mod Block
 pub mod SlotShare
 pub mod Told
+pub mod LentCall
 pub mod Numbers
 -- the call on tables
 pub mod Call
 pub mod Share
 pub mod Origin
 pub mod Choice
+pub mod Rounds
 pub mod Refusal
 -- any kind of call
 pub mod History
