@@ -1,0 +1,81 @@
+-- Histories of C calls on one lent state, each of which kept its promise. Whatever C hands over is part of them: any lengths, modes and slots.
+use mathlib.Core.Path.{_≡_, sym, ap, _∙_}
+use mathlib.Core.Logic.{inl, inr, ⊎-elim}
+use mathlib.Core.List.{List}
+use Prim.Native.Nat.{ℕ, _^_, _≤_, _<_}
+use native.Mathlib.Omega.{arith}
+use borrow.Author.Tests.{eq-eqb, eqb-true, eqb-false}
+use Rattle.laws.specs.Bytes.{Bytes}
+use Rattle.laws.proofs.Tests.{both}
+use Rattle.frames.specs.Part.{mostPorts}
+use Rattle.lcf.specs.Advance.{advance}
+use Rattle.demands.specs.History.{Below, after, howMany, InEach, InServed, quota, Moves, Fair}
+use Rattle.demands.specs.Refusal.{InOrder, Valid}
+use Rattle.demands.specs.SlotCall as frames
+use Rattle.demands.proofs.Turns.{fair-share}
+use Rattle.demands.proofs.Histories.{throughout}
+use Rattle.demands.proofs.Resent.{stale-again}
+use Rattle.demands.proofs.SlotCalls.{number-by-table}
+use Rattle.demands.proofs.SlotConnections.{no-target-twice}
+use Rattle.demands.proofs.SlotRefusal.{other-declined}
+use Rattle.demands.proofs.SlotServed.{served-advances}
+use Rattle.demands.proofs.SlotShare.{slots-fair}
+use Rattle.bellacush.specs.Slot.{stateOf}
+use Rattle.bellacush.proofs.Trips.{due-small}
+use Rattle.promised.specs.Call.{Left, roundsIn, CCall, Kept, next, number, served, onFrames, Lengths}
+use Rattle.promised.specs.Share.{connects, Waiting}
+use Rattle.promised.specs.Demanded.{Demanded}
+use Rattle.promised.proofs.Calls.{number-there, wrong-lengths, declined-keeps, served-call}
+
+module _ (m : ℕ) (most : m ≤ mostPorts) where
+  advances : (state : List ℕ) (d : CCall) → Kept m state d → number d ≡ 0 → stateOf (next state d) ≡ advance (stateOf state)
+  advances state d kept done =
+      let r = served-call m state d kept most done in
+      r .same-state ∙ served-advances m (stateOf state) (onFrames d) (r .on-frames)
+
+  c-moves : Moves stateOf (Kept m) next served
+  c-moves = record {
+    declined-keeps = λ state d kept e. ap (λ (l : Left). stateOf (l .state)) (declined-keeps m state d kept (eqb-false _ 0 e));
+    served-advances = λ state d kept e. advances state d kept (eqb-true _ 0 e);
+  }
+
+  c-fair : (i t : ℕ) → Fair stateOf (Kept m) next served (connects i t) (Waiting i t) i t
+  c-fair i t = record {
+    moves = c-moves;
+    favours = λ state d kept e w ei et.
+        let r = served-call m state d kept most (eqb-true _ 0 e) in
+        let hit = slots-fair m most i t .favours (stateOf state) (onFrames d) tt (eq-eqb _ 0 (r .on-frames)) w ei et in
+        rw (e, r .same-table i t, r .same-output) (both (frames.served m (stateOf state) (onFrames d)) _ hit .1);
+  }
+
+  demanded : (state : List ℕ) (d : CCall) → Kept m state d → Valid m (stateOf state) → Demanded m state d
+  demanded state d kept v = record {
+    wrong-lengths = wrong-lengths m state d kept;
+    number-by-table = λ right. number-by-table m (stateOf state) (onFrames d) (number d) .0 (sym (number-there m state d kept right));
+    other-declined = λ right slot< other. let is = number-there m state d kept right in
+        ⊎-elim (λ e. inl (is ∙ e)) (λ e. inr (is ∙ e)) (other-declined m (stateOf state) (onFrames d) slot< (v .due-small) (v .in-order) other);
+    declined-keeps = λ some. let same = declined-keeps m state d kept some in
+        (ap (λ (l : Left). l .state) same, ap (λ (l : Left). l .out) same, ap (λ (l : Left). l .table) same, ap roundsIn same ∙ omega arith);
+    served-advances = advances state d kept;
+    no-target-twice = λ done i j t p q. let same = served-call m state d kept most done .same-table in
+        no-target-twice m (stateOf state) (onFrames d) i j t (sym (same i t) ∙ p) (sym (same j t) ∙ q);
+  }
+
+  module _ (state : List ℕ) (calls : List CCall) (kept : InEach next (Kept m) state calls) where
+    -- Of W served calls, in each of which the pair (i, t) waits, W / n² or more connect it, in the bytes of the table and in host i's grant frame.
+    pub share : (i t : ℕ) → Below (stateOf state) → i < stateOf state .ports → t < stateOf state .ports → InServed next served (Waiting i t) state calls
+        → quota (stateOf state .ports) (howMany next served state calls) ≤ howMany next (connects i t) state calls
+    share i t = fair-share (c-fair i t) state calls kept
+
+    -- Each call of a history that begins with the bytes of a state in order is as it is demanded.
+    pub all-demanded : Bytes state → InOrder m (stateOf state) → InEach next (Demanded m) state calls
+    all-demanded bytes o = throughout c-moves m (Demanded m) demanded state calls kept (record { in-order = o; due-small = due-small state bytes })
+
+  -- A slot that was served is declined with 3 when it comes again, whatever calls come between, as long as fewer than 2 ^ 31 of them are served.
+  pub resent-stale : (state : List ℕ) (d again : CCall) (calls : List CCall) → Kept m state d → InEach next (Kept m) (next state d) calls
+      → Kept m (after next (next state d) calls) again → Lengths m (after next (next state d) calls) again
+      → Bytes state → number d ≡ 0 → d .handed .slot < 2 ^ 32 → howMany next served (next state d) calls < 2 ^ 31
+      → again .handed .slot ≡ d .handed .slot → number again ≡ 3
+  resent-stale state d again calls kept all kept-again right bytes done slot< few same =
+      number-there m _ again kept-again right
+      ∙ stale-again c-moves m state d calls (onFrames d) (onFrames again) kept all (eq-eqb _ 0 done) (served-call m state d kept most done .on-frames) (due-small state bytes) slot< few same

@@ -1,0 +1,66 @@
+-- What pins the C form's definitions down: the mode, the rounds, a fresh state's bytes, and that qen is unused.
+use mathlib.Core.Path.{_≡_, sym, ap, subst, _∙_}
+use mathlib.Core.Logic.{inr, ⊎-elim, _↔_}
+use mathlib.Core.List.{List, _∷_}
+use Prim.Native.Nat.{ℕ, zero, suc, _*_, _^_, _≤_, _<_}
+use native.Mathlib.Omega.{arith}
+use lib.Dec.{eqb·suc-zero}
+use lib.ListN.{length, take}
+use Rattle.laws.specs.Bytes.{bigEndian}
+use Rattle.laws.proofs.Bytes.{number-big}
+use Rattle.frames.specs.Config.{configLen}
+use Rattle.frames.specs.Grant.{grantLen}
+use Rattle.frames.specs.Part.{mostPorts}
+use Rattle.lcf.specs.Ready.{fresh}
+use Rattle.lcf.specs.declared.state.State.{State}
+use Rattle.lcf.specs.declared.state.Fresh.{Fresh}
+use Rattle.lcf.proofs.Started.{fresh-is}
+use Rattle.demands.specs.Numbers.{WrongLimit}
+use Rattle.demands.specs.Block.{QenAlone}
+use Rattle.demands.specs.SlotCall as frames
+use Rattle.demands.specs.Rounds.{HasRounds}
+use Rattle.demands.proofs.Qen.{qen-unused, qen-unused-output}
+use Rattle.demands.proofs.Rounds.{rounds-run}
+use Rattle.demands.proofs.Started.{fresh-serves}
+use Rattle.bellacush.specs.Slot.{stateOf, modeOf, fits, run, slotWord, slotState, slotTable, slotOutput}
+use Rattle.promised.specs.Call.{Handed, CCall, promise, Kept, number, rounds, onFrames, Lengths}
+use Rattle.promised.proofs.Calls.{number-there, served-call}
+
+-- A mode is a wrong limit exactly if it is above m.
+pub limit-exactly : (m mode : ℕ) → WrongLimit m (modeOf mode) ↔ (m < mode)
+unfolding modeOf
+limit-exactly m zero = (λ wrong. absurd wrong, λ above. omega arith)
+limit-exactly m (suc k) = rw (eqb·suc-zero k) (⊎-elim (λ l. omega arith) (λ l. l), inr)
+
+-- The rounds in a served call's word are those of rule 6.
+pub rounds-in-word : (m : ℕ) → m ≤ mostPorts → (state : List ℕ) (d : CCall) → Kept m state d → number d ≡ 0 → HasRounds m (stateOf state) (onFrames d) (rounds d)
+rounds-in-word m most state d kept done =
+    let r = served-call m state d kept most done in
+    subst (HasRounds m (stateOf state) (onFrames d)) (sym (r .same-rounds)) (rounds-run m (stateOf state) (onFrames d) (r .on-frames))
+
+-- With another qen in the block, a call leaves the same word and the same bytes.
+abbrev pub withBlock : Handed → List ℕ → Handed
+withBlock c block = record { lent = c .lent; slot = c .slot; mode = c .mode; block = block; link = c .link; out = c .out; table = c .table }
+
+pub qen-unused-in-bytes : (m : ℕ) (state : List ℕ) (c : Handed) (other : List ℕ) → QenAlone (stateOf (take (c .lent) state) .ports) (c .block) other
+    → promise m state c ≡ promise m state (withBlock c other)
+unfolding slotWord slotState slotTable slotOutput run fits
+qen-unused-in-bytes m state c other alone =
+    let st = stateOf (take (c .lent) state) in
+    rw (qen-unused m st (c .slot) (modeOf (c .mode)) (c .block) other (c .link) (c .out) alone, qen-unused-output m st (c .slot) (modeOf (c .mode)) (c .block) other (c .link) (c .out) alone)
+
+-- n, two zeros and four bytes are a fresh state. A call in order on them is served in the slot that they name.
+module _ (m n due : ℕ) (some : 1 ≤ n) (most : n ≤ m) (due< : due < 2 ^ 32) where
+  pub fresh-bytes : stateOf (n ∷ 0 ∷ 0 ∷ bigEndian 4 due) ≡ fresh m n due .state
+  unfolding stateOf bigEndian
+  fresh-bytes =
+      let d = number-big 4 due due< in
+      (λ k. record { ports = n; initiator = record { 0 = 0 }; target = record { 0 = 0 }; due = d k }) ∙ ap (λ (f : Fresh). f .state) (sym (fresh-is m n due some most))
+
+  pub fresh-serves-in-bytes : (d : CCall) → let state = n ∷ 0 ∷ 0 ∷ bigEndian 4 due in
+      Kept m state d → Lengths m state d → d .handed .slot ≡ due → d .handed .mode ≤ m → length (d .handed .block) ≡ n * configLen → n * grantLen ≤ length (d .handed .out)
+      → number d ≡ 0
+  fresh-serves-in-bytes d kept right named mode block out =
+      number-there m _ d kept right
+      ∙ ap (λ (st : State). frames.number m st (onFrames d)) fresh-bytes
+      ∙ fresh-serves m n due some most (onFrames d) named (λ wrong. omega (arith, limit-exactly m (d .handed .mode) .0 wrong)) block out

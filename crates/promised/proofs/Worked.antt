@@ -1,0 +1,64 @@
+-- Cases D and I of document 01 as C calls, byte for byte: one computed statement over the definitions.
+use mathlib.Core.Path.{_≡_, refl}
+use mathlib.Core.List.{List, [], _∷_, _++_}
+use Prim.Native.Nat.{ℕ, _-_, _*_}
+use lib.Count.{ones, trailingZeros}
+use lib.ListN.{replicate}
+use Rattle.laws.specs.Steps.{steps}
+use Rattle.laws.specs.Bytes.{bigEndian, numberFrom}
+use Rattle.words.specs.Check.{crcBit, crcByte, crcFrom, intact}
+use Rattle.frames.specs.Frame.{formNumber}
+use Rattle.frames.specs.Config.{configOf}
+use Rattle.frames.specs.Grant.{grantFrame}
+use Rattle.frames.specs.Part.{mostPorts, hostNumber}
+use Rattle.lcf.specs.Heard.{clearers, present, counted}
+use Rattle.lcf.specs.Choice.{choice}
+use Rattle.lcf.specs.Join.{join, joinLive}
+use Rattle.lcf.specs.Planned.{planner, give, planned}
+use Rattle.lcf.specs.Central.{fewest, winner, serve}
+use Rattle.lcf.specs.Distributed.{askers, grants, offers, accepted, answer, round, oneMore, distributed}
+use Rattle.lcf.specs.Advance.{advance}
+use Rattle.lcf.specs.Slot.{within, start, serveMode, matched, behind, wrongLimit, dueNumber, declined, ended, slotOnTables}
+use Rattle.shelf.specs.Hosts.{said, hostsOf}
+use Rattle.shelf.specs.Grants.{lowest, grantFor, granted}
+use Rattle.shelf.specs.Step.{refusal, slotOnHosts, stepped, output}
+use Rattle.bellacush.specs.Slot.{stateOf, stateBytes, modeOf, stateAfter, tableAfter, fits, run, slotWord, slotState, slotTable, slotOutput}
+use Rattle.promised.specs.Call.{Handed, promise}
+
+-- a call with a block of three frames, each with ben 7 and qen 0x0102; 16 bytes of output and two of table for each set, all of them 9; the
+-- link of host 1 is down
+abbrev pub slotOf : ℕ → ℕ → List ℕ → Handed
+slotOf slot mode block = record { lent = 7; slot = slot; mode = mode; block = block; link = 2; out = replicate 16 9; table = replicate (mostPorts * 2) 9 }
+
+-- D is served at (1, 2) in slot 0x01020304, with a byte after the state's seven
+abbrev pub caseD : Handed
+caseD =
+    slotOf 0x01020304 0
+    ((1 ∷ 0 ∷ 5 ∷ 0 ∷ 0 ∷ 0 ∷ 7 ∷ 1 ∷ 2 ∷ 28 ∷ 21 ∷ [])
+    ++ (1 ∷ 0 ∷ 0 ∷ 0 ∷ 0 ∷ 0 ∷ 7 ∷ 1 ∷ 2 ∷ 101 ∷ 178 ∷ [])
+    ++ (1 ∷ 0 ∷ 6 ∷ 0 ∷ 0 ∷ 0 ∷ 7 ∷ 1 ∷ 2 ∷ 196 ∷ 151 ∷ []))
+
+-- I is served at (2, 0) in the last slot, with limit 2
+abbrev pub caseI : Handed
+caseI =
+    slotOf 0xFFFFFFFF 2
+    ((1 ∷ 0 ∷ 3 ∷ 0 ∷ 0 ∷ 0 ∷ 7 ∷ 1 ∷ 2 ∷ 189 ∷ 48 ∷ [])
+    ++ (1 ∷ 0 ∷ 7 ∷ 0 ∷ 0 ∷ 0 ∷ 7 ∷ 1 ∷ 2 ∷ 124 ∷ 246 ∷ [])
+    ++ (1 ∷ 0 ∷ 4 ∷ 0 ∷ 0 ∷ 0 ∷ 7 ∷ 1 ∷ 2 ∷ 164 ∷ 116 ∷ []))
+
+pub worked : (promise mostPorts (3 ∷ 1 ∷ 2 ∷ 1 ∷ 2 ∷ 3 ∷ 4 ∷ 77 ∷ []) caseD
+    ≡ record {
+      word = 0;
+      state = 3 ∷ 2 ∷ 2 ∷ 1 ∷ 2 ∷ 3 ∷ 5 ∷ 77 ∷ [];
+      out = 2 ∷ 0 ∷ 1 ∷ 178 ∷ 221 ∷ 2 ∷ 16 ∷ 2 ∷ 129 ∷ 205 ∷ 2 ∷ 34 ∷ 1 ∷ 210 ∷ 89 ∷ 9 ∷ [];
+      table = 0 ∷ 1 ∷ 0 ∷ 0 ∷ 0 ∷ 4 ∷ replicate (mostPorts * 2 - 6) 0;
+    })
+    × (promise mostPorts (3 ∷ 2 ∷ 0 ∷ 255 ∷ 255 ∷ 255 ∷ 255 ∷ []) caseI
+    ≡ record {
+      word = 512;
+      state = 3 ∷ 0 ∷ 1 ∷ 0 ∷ 0 ∷ 0 ∷ 0 ∷ [];
+      out = 2 ∷ 1 ∷ 1 ∷ 129 ∷ 236 ∷ 2 ∷ 16 ∷ 3 ∷ 145 ∷ 236 ∷ 2 ∷ 34 ∷ 1 ∷ 210 ∷ 89 ∷ 9 ∷ [];
+      table = 0 ∷ 2 ∷ 0 ∷ 1 ∷ 0 ∷ 4 ∷ replicate (mostPorts * 2 - 6) 0;
+    })
+unfolding ones trailingZeros steps bigEndian numberFrom crcBit crcByte crcFrom intact formNumber configOf grantFrame hostNumber clearers present counted choice join joinLive planner give planned fewest winner serve askers grants offers accepted answer round oneMore distributed advance within start serveMode matched behind wrongLimit dueNumber declined ended slotOnTables said hostsOf lowest grantFor granted refusal slotOnHosts stepped output stateOf stateBytes modeOf stateAfter tableAfter fits run slotWord slotState slotTable slotOutput
+worked = (refl, refl)
