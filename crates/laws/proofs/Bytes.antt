@@ -2,11 +2,11 @@
 use mathlib.Core.Path.{_≡_, refl, _∙_}
 use mathlib.Core.List.{List, [], _∷_, _++_}
 use Prim.Native.Nat.{ℕ, zero, suc, _+_, _*_, _/_, _%_, _^_, _<_, _≤_}
-use native.Mathlib.Nat.{div-add-mod', div-lt-iff-lt-mul, pow-suc, suc-mul, zero-mul}
+use native.Mathlib.Nat.{div-add-mod', div-lt-iff-lt-mul, mul-le-mul-left, mul-le-mul-right, one-le-pow, pow-suc, suc-mul, zero-mul}
 use native.Mathlib.Omega.{arith}
 use lib.ListN.{length, getD, take, drop, length-append, length-drop}
 use lib.Seq.{take-suc, take-add, getD-drop}
-use lib.Dec.{lit<}
+use lib.Dec.{lit<, lit≤}
 use Rattle.laws.specs.Steps.{steps}
 use Rattle.laws.specs.Parts.{parts}
 use Rattle.laws.specs.Bytes.{Bytes, bigEndian, numberFrom, number, row, field}
@@ -29,6 +29,17 @@ number-big zero x h = omega arith
 number-big (suc w) x h =
     let less : x / 256 < 256 ^ w = div-lt-iff-lt-mul (lit< tt) .1 (rw pow-suc at h) in
     number-snoc 0 (bigEndian w (x / 256)) (x % 256) ∙ rw (number-big w (x / 256) less) (div-add-mod' x 256)
+
+-- the number that w bytes make after those of x
+pub number-small : (w x : ℕ) (s : List ℕ) → Bytes s → numberFrom x (take w s) < (x + 1) * 256 ^ w
+unfolding numberFrom
+number-small zero x s bytes = omega arith
+number-small (suc w) x [] bytes =
+    let none : numberFrom x (take (suc w) []) ≡ x = refl in
+    omega (arith, mul-le-mul-left (x + 1) (one-le-pow (suc w) 256 (lit≤ tt)))
+number-small (suc w) x (b ∷ s) bytes =
+    let byte : x * 256 + b + 1 ≤ (x + 1) * 256 = omega (arith, bytes 0) in
+    rw pow-suc (omega (arith, number-small w (x * 256 + b) s (λ k. bytes (suc k)), mul-le-mul-right (256 ^ w) byte))
 
 pub big-number : (s : List ℕ) → Bytes s → (w : ℕ) → w ≤ length s → bigEndian w (number (take w s)) ≡ take w s
 unfolding bigEndian
