@@ -12,7 +12,7 @@ use Rattle.laws.specs.Bytes.{Bytes}
 use Rattle.laws.proofs.Bytes.{bytes-drop, bytes-take}
 use Rattle.words.specs.Check.{checked, front, intact}
 use Rattle.words.proofs.CheckLaws.{length-checked, checked-intact, intact-checked}
-use Rattle.frames.specs.Frame.{sealed, bodyOf, formNumber, formAnswer, answered, written}
+use Rattle.frames.specs.Frame.{sealed, bodyOf, formNumber, formAnswer, answered, roomNumber, written}
 use Rattle.frames.specs.declared.frame.Form.{Form}
 
 pub length-sealed : (type : ℕ) (body : List ℕ) → length (sealed type body) ≡ length body + 3
@@ -69,6 +69,14 @@ pub answered-zero : {A : Type 0} (k : ℕ) (x z f : A) → answered k x z ≡ re
 answered-zero k x z f e =
     let none : k ≡ 0 = ap (λ a. a .number) e in
     (none, rw none at (ap (λ a. a .fields) e))
+
+-- what a writer leaves that puts a frame of len bytes
+pub put-frame : (len number : ℕ) (made frame out last : List ℕ) → made ≡ frame → length frame ≡ len
+    → (number ≡ roomNumber (length made) out) × (last ≡ written number (length made) made out)
+    → (number ≡ roomNumber len out) × (last ≡ written (roomNumber len out) len frame out)
+put-frame len number made frame out last is long (told, left) =
+    let room : number ≡ roomNumber len out = rw (is, long) at told in
+    (room, rw (is, long, room) at left)
 
 -- a writer that answers 0 wrote the frame
 pub written-zero : (k len : ℕ) (frame out : List ℕ) → k ≡ 0 → length frame ≡ len → take len (written k len frame out) ≡ frame

@@ -6,7 +6,7 @@ use Rattle.frames.proofs.config.Config.of.Tie as tie
 
 returns : tie.Need-returns
 unfolding configOf
-returns c = cc
+returns c = rw (c .before .before .before .word .ensures, c .before .before .word2 .ensures, c .before .word3 .ensures, c .word4 .ensures)
 
 pub of-spec : {M : Type 1} → statement M
 of-spec =

@@ -7,7 +7,7 @@ use Rattle.frames.proofs.grant.Grant.of.Tie as tie
 
 returns : tie.Need-returns
 unfolding grantOf
-returns c = cc
+returns c = rw (c .before .before .holds .ensures, c .before .holds2 .ensures, c .holds3 .ensures)
 
 pub of-spec : {M : Type 1} → statement M
 of-spec =
