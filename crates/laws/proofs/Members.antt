@@ -3,11 +3,12 @@ use mathlib.Core.Path.{_≡_, refl, sym, ap, ap₂, _∙_}
 use mathlib.Core.Logic.{_⊎_, inl, inr, ⊎-elim}
 use mathlib.Core.Bool.{Bool, true, false, not, _&&_, _||_, cond, or-true, true≢false}
 use mathlib.Core.List.{List}
-use Prim.Native.Nat.{ℕ, zero, suc, _-_, _*_, _/_, _%_, _^_, _≤_, _<_}
+use Prim.Native.Nat.{ℕ, zero, suc, min, _-_, _*_, _/_, _%_, _^_, _≤_, _<_}
 use native.Mathlib.Nat.{div-mul-le-self, mod-le, mod-lt, mul-assoc, mul-le-mul-right, pow-suc, zero-div, le-trans}
 use native.Mathlib.Decide.{decLt, ℕ-discrete}
 use native.Mathlib.Omega.{arith}
-use lib.Bits.{bitOr, or-shr, or-mod}
+use lib.Bits.{bitAnd, bitOr, and-self, and-step, or-shr, or-mod}
+use lib.Count.{trailingZeros, under}
 use lib.Dec.{eqb, eqb·zero-suc, eqb·suc-zero, eqb·suc-suc}
 use lib.ListN.{length, getD, set, replicate, List·getD-eq-default, length-set}
 use lib.Pow.{pow-pos}
@@ -47,6 +48,26 @@ digit-without s (suc k) zero = rw (eqb·zero-suc k) (omega (arith, without-suc s
 digit-without s (suc k) (suc j) =
     let h : without s (suc k) / 2 ≡ without (s / 2) k = omega (arith, without-suc s k, digit-le (s / 2) k) in
     rw (eqb·suc-suc j k) (digit-suc _ j ∙ ap (λ x. digit x j) h ∙ digit-without (s / 2) k j ∙ ap (cond (eqb j k) 0) (sym (digit-suc s j)))
+
+-- a word and the number before it have all its digits but the first in common
+pub and-pred : (w s : ℕ) → (s ≡ 0 → ⊥) → s < 2 ^ w → bitAnd s (s - 1) ≡ without s (trailingZeros w s)
+unfolding trailingZeros
+and-pred zero s f h = absurd (f (omega arith))
+and-pred (suc w) s f h = go (s % 2) refl (and-pred w (s / 2))
+  where
+    t : ℕ
+    t = trailingZeros w (s / 2)
+
+    go : (d : ℕ) → s % 2 ≡ d → ((s / 2 ≡ 0 → ⊥) → s / 2 < 2 ^ w → bitAnd (s / 2) (s / 2 - 1) ≡ without (s / 2) t)
+        → bitAnd s (s - 1) ≡ without s (under d t)
+    go zero e r =
+        let half : (s - 1) / 2 ≡ s / 2 - 1 = omega arith in
+        let rest = r (λ z. f (omega arith)) (omega (arith, pow-suc 2 w)) in
+        let none : min (s % 2) ((s - 1) % 2) ≡ 0 = omega arith in
+        rw (and-step, half, rest, none, without-suc) (omega (arith, digit-le (s / 2) t))
+    go (suc d) e r =
+        let half : (s - 1) / 2 ≡ s / 2 = omega arith in
+        rw (and-step, half, and-self) (omega arith)
 
 -- ---- who is in a set
 

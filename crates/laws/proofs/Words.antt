@@ -3,6 +3,7 @@ use mathlib.Core.Path.{_≡_, refl, sym, ap, _∙_}
 use mathlib.Core.Bool.{false, _&&_}
 use Prim.Native.Nat.{ℕ, zero, suc, min, _+_, _-_, _*_, _/_, _%_, _^_, _≤_, _<_}
 use native.Mathlib.Nat.{mod-lt, one-mul, div-one, pow-suc, mul-comm, div-div-eq-div-mul, lt-of-lt-of-le, div-eq-of-lt, le-of-suc-le-suc, not-suc-le-zero}
+use native.Mathlib.Decide.{decLt}
 use native.Mathlib.Omega.{arith}
 use borrow.Author.Tests.{ne-eqb}
 use lib.Dec.{eqb}
@@ -87,3 +88,13 @@ first-digit (suc w) s f h = go (s % 2) refl (first-digit w (s / 2))
         → (digit s (under d t) ≡ 1) × ((k : ℕ) → k < under d t → digit s k ≡ 0)
     go zero e r = let p = r (λ z. f (omega arith)) (omega arith) in (digit-suc s t ∙ p .0, below e (p .1))
     go (suc d) e r = (digit-zero s ∙ omega arith, λ k l. absurd (not-suc-le-zero l))
+
+-- the first digit of a word of w stands below w
+pub trailing-below : (w s : ℕ) → 0 < s → s < 2 ^ w → trailingZeros w s < w
+trailing-below w s p h = go (decLt (trailingZeros w s) w)
+  where
+    go : Dec (trailingZeros w s < w) → trailingZeros w s < w
+    go (yes l) = l
+    go (no l) =
+        let none : digit s (trailingZeros w s) ≡ 0 = digit-past s w (trailingZeros w s) h (omega arith) in
+        absurd (omega (arith, first-digit w s (λ e. omega arith) h .0))

@@ -1,6 +1,7 @@
 pub mod Cases
 pub mod Choices
 pub mod Hearing
+pub mod Ports
 pub mod Rounds
 pub mod Slots
 pub mod Started

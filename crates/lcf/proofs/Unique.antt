@@ -9,6 +9,7 @@ use Rattle.lcf.specs.declared.work.Stepped.{Stepped}
 use Rattle.lcf.proofs.state.State.fresh.Reads as fresh
 use Rattle.lcf.proofs.state.State.empty_table.Reads as empty-table
 use Rattle.lcf.proofs.heard.counted.Reads as counted
+use Rattle.lcf.proofs.sets.within.Reads as within
 use Rattle.lcf.proofs.slot.due_number.Reads as due-number
 use Rattle.lcf.proofs.slot.declined.Reads as declined
 use Rattle.lcf.proofs.slot.slot_on_tables.Reads as slot-on-tables
@@ -21,6 +22,9 @@ empty-table-once κs a r s x y p q = the-result p q
 
 pub counted-once : (κs a : _) (r s : Tables) (x y : _) → counted.Learnt κs a r x → counted.Learnt κs a s y → r ≡ s
 counted-once κs a r s x y p q = the-result p q
+
+pub within-once : (κs a : _) (r s : List ℕ) (x y : _) → within.Learnt κs a r x → within.Learnt κs a s y → r ≡ s
+within-once κs a r s x y p q = the-result p q
 
 pub due-number-once : (κs a : _) (r s : ℕ) (x y : _) → due-number.Learnt κs a r x → due-number.Learnt κs a s y → r ≡ s
 due-number-once κs a r s x y p q = the-result p q

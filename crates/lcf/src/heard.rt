@@ -1,11 +1,12 @@
 // Rules 1 and 2: what of the hosts' fields counts.
+use crate::sets::at_most;
 use crate::state::Set;
 use crate::state::State;
 use crate::state::Table;
 use words::holds;
 ghost use mathlib.Core.Path.{_≡_};
 ghost use mathlib.Core.Bool.{cond};
-ghost use Prim.Native.Nat.{min, _<_, _≤_};
+ghost use Prim.Native.Nat.{_<_, _≤_};
 ghost use lib.Bits.{bitAnd};
 ghost use lib.ListN.{getD};
 ghost use Rattle.frames.specs.Part.{mostPorts};
@@ -16,16 +17,6 @@ ghost use Rattle.lcf.specs.Heard.{Present, tables};
 pub struct Tables {
     pub req: Table,
     pub pre: Table,
-}
-
-fn at_most(ports: usize) -> usize
-    ensures { λ r. ⌜ r ≡ min ports mostPorts ⌝ }
-{
-    if ports < State::MOST {
-        ports
-    } else {
-        State::MOST
-    }
 }
 
 // Without those whom host h disables, if it is heard.

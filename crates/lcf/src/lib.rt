@@ -12,6 +12,7 @@ mod work;
 
 pub use heard::Tables;
 pub use heard::counted;
+pub use sets::within;
 pub use slot::declined;
 pub use slot::due_number;
 pub use slot::slot_on_tables;

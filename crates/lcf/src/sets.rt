@@ -7,7 +7,7 @@ use crate::state::Target;
 use words::holds;
 ghost use mathlib.Core.Path.{_≡_};
 ghost use mathlib.Core.Bool.{cond};
-ghost use Prim.Native.Nat.{_%_, _^_, _<_, _≤_};
+ghost use Prim.Native.Nat.{min, _%_, _^_, _<_, _≤_};
 ghost use Rattle.frames.specs.Part.{mostPorts};
 ghost use Rattle.laws.specs.Sets.{has, with, without, column, sizes};
 ghost use Rattle.lcf.specs.Slot.{within};
@@ -26,6 +26,16 @@ pub(crate) fn clear(s: Set, k: usize) -> Set
     s - (s & (1 << k))
 }
 
+pub(crate) fn at_most(ports: usize) -> usize
+    ensures { λ r. ⌜ r ≡ min ports mostPorts ⌝ }
+{
+    if ports < State::MOST {
+        ports
+    } else {
+        State::MOST
+    }
+}
+
 // The row's bits below n.
 pub(crate) fn clip(row: Set, n: usize) -> Set
     requires { ⌜ n ≤ mostPorts ⌝ }
@@ -34,13 +44,14 @@ pub(crate) fn clip(row: Set, n: usize) -> Set
     (row as Moved % (1 << n)) as Set
 }
 
-pub(crate) fn within(n: usize, rows: Table) -> Table
-    requires { ⌜ n ≤ mostPorts ⌝ }
+// The table as n ports see it: rows and bits at or above n are ignored.
+pub fn within(n: usize, rows: Table) -> Table
     ensures { λ r. ⌜ r ≡ within n rows ⌝ }
 {
+    let ports = at_most(n);
     let mut table = State::empty_table();
-    for i in 0..n {
-        table[i] = clip(rows[i], n);
+    for i in 0..ports {
+        table[i] = clip(rows[i], ports);
     }
     table
 }

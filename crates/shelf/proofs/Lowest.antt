@@ -2,24 +2,13 @@
 use mathlib.Core.Path.{_≡_, refl}
 use mathlib.Core.Bool.{Bool, true, false, not, _||_, cond}
 use Prim.Native.Nat.{ℕ, _^_, _<_}
-use native.Mathlib.Decide.{decLt}
 use native.Mathlib.Omega.{arith}
 use lib.Count.{trailingZeros}
 use lib.Dec.{eqb}
 use borrow.Author.Tests.{eq-eqb, ne-eqb}
-use Rattle.laws.specs.Sets.{digit, has}
-use Rattle.laws.proofs.Words.{digit-past, first-digit}
+use Rattle.laws.specs.Sets.{has}
+use Rattle.laws.proofs.Words.{first-digit, trailing-below}
 use Rattle.shelf.specs.Grants.{lowest}
-
--- the first digit of a word of w stands below w
-trailing-below : (w s : ℕ) → 0 < s → s < 2 ^ w → trailingZeros w s < w
-trailing-below w s p h = go (decLt (trailingZeros w s) w)
-  where
-    go : Dec (trailingZeros w s < w) → trailingZeros w s < w
-    go (yes l) = l
-    go (no l) =
-        let none : digit s (trailingZeros w s) ≡ 0 = digit-past s w (trailingZeros w s) h (omega arith) in
-        absurd (omega (arith, first-digit w s (λ e. omega arith) h .0))
 
 -- what the code returns for a set that is not empty
 pub lowest-found : (w s : ℕ) → 0 < s → s < 2 ^ w → (trailingZeros w s ≡ lowest w s) × (trailingZeros w s < w)
