@@ -1,0 +1,54 @@
+-- Which pairs are in the tables that a slot makes.
+use mathlib.Core.Path.{_≡_, refl, ap, _∙_}
+use mathlib.Core.Bool.{Bool, true, false, not, _&&_}
+use mathlib.Core.List.{List}
+use Prim.Native.Nat.{ℕ, zero, suc, _/_, _%_, _^_, _<_}
+use native.Mathlib.Nat.{mod-lt}
+use native.Mathlib.Omega.{arith}
+use lib.Bits.{bitAnd, bitXor, and-shr, and-mod, xor-shr, xor-mod}
+use lib.Dec.{eqb, ltb}
+use lib.ListN.{getD, length}
+use borrow.Author.Tests.{ltb-true, lt-ltb}
+use Rattle.laws.specs.Sets.{digit, has, asks}
+use Rattle.laws.proofs.Tests.{both, every, same}
+use Rattle.laws.proofs.Rows.{row-tabled}
+use Rattle.laws.proofs.Members.{tabled-asks, asks-row, below-has, has-below}
+use Rattle.laws.proofs.Words.{has-and}
+use Rattle.lcf.specs.Slot.{within}
+use Rattle.ledger.specs.Events.{but, meet, less}
+
+digit-but : (a b k : ℕ) → digit (but a b) k ≡ but (digit a k) (digit b k)
+digit-but a b k = ap (λ x. x % 2) (xor-shr a (bitAnd a b) k) ∙ xor-mod (a / 2 ^ k) _ 1
+    ∙ ap (bitXor (digit a k)) (ap (λ x. x % 2) (and-shr a b k) ∙ and-mod (a / 2 ^ k) (b / 2 ^ k) 1)
+
+but-bits : (x y : ℕ) → x < 2 → y < 2 → eqb (but x y) 1 ≡ (eqb x 1 && not (eqb y 1))
+but-bits zero zero h l = refl
+but-bits zero (suc zero) h l = refl
+but-bits (suc zero) zero h l = refl
+but-bits (suc zero) (suc zero) h l = refl
+but-bits zero (suc (suc y)) h l = absurd (omega arith)
+but-bits (suc zero) (suc (suc y)) h l = absurd (omega arith)
+but-bits (suc (suc x)) y h l = absurd (omega arith)
+
+has-but : (a b k : ℕ) → has (but a b) k ≡ (has a k && not (has b k))
+has-but a b k = ap (λ d. eqb d 1) (digit-but a b k) ∙ but-bits _ _ (mod-lt (a / 2 ^ k) (omega arith)) (mod-lt (b / 2 ^ k) (omega arith))
+
+module _ (m : ℕ) (a b : List ℕ) (i t : ℕ) (h : i < m) where
+  pub asks-meet : asks (meet m a b) i t ≡ (asks a i t && asks b i t)
+  unfolding meet
+  asks-meet = ap (λ s. has s t) (row-tabled m _ m i h h) ∙ has-and _ _ t
+
+  pub asks-less : asks (less m a b) i t ≡ (asks a i t && not (asks b i t))
+  unfolding less
+  asks-less = ap (λ s. has s t) (row-tabled m _ m i h h) ∙ has-but _ _ t
+
+-- rows and bits at or above n are ignored
+pub asks-within : (n : ℕ) (rows : List ℕ) (i t : ℕ) → asks (within n rows) i t ≡ (ltb i n && ltb t n && asks rows i t)
+unfolding within
+asks-within n rows i t = same _ _
+    (λ e. let (l, h) = tabled-asks (length rows) _ n i t e in
+    let (g, a) = below-has (getD rows i 0) n t h in
+    every (every (lt-ltb i n l) (lt-ltb t n g)) a)
+    (λ e. let (r, a) = both (ltb i n && ltb t n) (asks rows i t) e in
+    let (l, g) = both (ltb i n) (ltb t n) r in
+    ap (λ s. has s t) (row-tabled (length rows) _ n i (ltb-true i n l) (asks-row rows i t a)) ∙ has-below (getD rows i 0) n t (ltb-true t n g) ∙ a)

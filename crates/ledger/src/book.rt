@@ -1,0 +1,209 @@
+// The ledger by value: an empty one, the feed after a served slot, and the figures of a pair.
+use crate::counts::above;
+use crate::counts::raise;
+use crate::events::any;
+use crate::events::happened;
+use lcf::Initiator;
+use lcf::State;
+use lcf::Target;
+ghost use mathlib.Core.Path.{_≡_};
+ghost use mathlib.Core.Bool.{cond};
+ghost use Prim.Native.Nat.{_<_};
+ghost use Rattle.frames.specs.Part.{mostPorts};
+ghost use Rattle.laws.specs.Sets.{has};
+ghost use Rattle.ledger.specs.Counts.{pairs, raised, above, Room};
+ghost use Rattle.ledger.specs.Ledger.{empty, hidden, shown, over, refusal, number, next, feed};
+
+// Four counts for each pair, and the pairs that were asked and not connected in the last counted slot.
+pub struct Ledger {
+    pub slots: u32,
+    pub asked: [u32; Ledger::PAIRS],
+    pub connected: [u32; Ledger::PAIRS],
+    pub fresh: [u32; Ledger::PAIRS],
+    pub withdrawn: [u32; Ledger::PAIRS],
+    pub waiting: [u16; State::MOST],
+}
+
+// The number of a feed, and the ledger after it: as it was, if the number is not 0.
+pub struct Fed {
+    pub number: u8,
+    pub ledger: Ledger,
+}
+
+// The five figures of a pair.
+pub struct Figures {
+    pub asked: u32,
+    pub connected: u32,
+    pub fresh: u32,
+    pub withdrawn: u32,
+    pub isopen: u32,
+}
+
+// The number, and the figures: zeros, if the number is not 0.
+pub struct Shown {
+    pub number: u8,
+    pub figures: Figures,
+}
+
+impl Ledger {
+    // How many pairs there are.
+    pub const PAIRS: usize = State::MOST * State::MOST;
+
+    // The most slots that are counted.
+    pub const SLOTS: u32 = 4294967295;
+
+    pub fn empty() -> Ledger
+        ensures { λ r. ⌜ r ≡ empty mostPorts ⌝ }
+    {
+        Ledger {
+            slots: 0,
+            asked: [0; Ledger::PAIRS],
+            connected: [0; Ledger::PAIRS],
+            fresh: [0; Ledger::PAIRS],
+            withdrawn: [0; Ledger::PAIRS],
+            waiting: [0; State::MOST],
+        }
+    }
+}
+
+fn exceeds(counts: [u32; Ledger::PAIRS], x: u32) -> bool
+    ensures { λ r. ⌜ r ≡ above counts x (pairs mostPorts) ⌝ }
+{
+    above(&counts, x)
+}
+
+// A figure is above the slots counted; an open request is one.
+fn over(ledger: Ledger) -> bool
+    ensures { λ r. ⌜ r ≡ over mostPorts ledger ⌝ }
+{
+    let asked = ledger.asked;
+    let connected = ledger.connected;
+    let fresh = ledger.fresh;
+    let withdrawn = ledger.withdrawn;
+    let waiting = ledger.waiting;
+    let x = ledger.slots;
+    exceeds(asked, x)
+        | exceeds(connected, x)
+        | exceeds(fresh, x)
+        | exceeds(withdrawn, x)
+        | ((x < 1) & any(waiting))
+}
+
+// The numbers 1 and 13, or 0 if the slot is to be counted.
+pub(crate) fn refusal(n: usize, slots: u32, over: bool) -> u8
+    ensures { λ r. ⌜ r ≡ refusal mostPorts n slots over ⌝ }
+{
+    if (n < 1) | (State::MOST < n) {
+        return 1;
+    }
+    if (Ledger::SLOTS <= slots) | over {
+        return 13;
+    }
+    0
+}
+
+fn raised(counts: [u32; Ledger::PAIRS], rows: [u16; State::MOST]) -> [u32; Ledger::PAIRS]
+    requires { ⌜ Room mostPorts counts ⌝ }
+    ensures { λ r. ⌜ r ≡ raised mostPorts rows counts ⌝ }
+{
+    let mut table = counts;
+    raise(&mut table, rows);
+    table
+}
+
+// With one slot more.
+fn next(
+    ledger: Ledger,
+    n: usize,
+    asked: [u16; State::MOST],
+    connected: [u16; State::MOST],
+) -> Ledger
+    requires { ⌜ number mostPorts ledger n ≡ 0 ⌝ }
+    ensures { λ r. ⌜ r ≡ next mostPorts ledger n asked connected ⌝ }
+{
+    let waited = ledger.waiting;
+    let slot = happened(n, waited, asked, connected);
+    let waiting = slot.waiting;
+    let a = ledger.asked;
+    let c = ledger.connected;
+    let f = ledger.fresh;
+    let w = ledger.withdrawn;
+    let to_a = slot.asked;
+    let to_c = slot.connected;
+    let to_f = slot.fresh;
+    let to_w = slot.withdrawn;
+    Ledger {
+        slots: ledger.slots + 1,
+        asked: raised(a, to_a),
+        connected: raised(c, to_c),
+        fresh: raised(f, to_f),
+        withdrawn: raised(w, to_w),
+        waiting,
+    }
+}
+
+// A served slot of n ports is counted, with the sets asked and the sets connected.
+pub fn feed(
+    ledger: Ledger,
+    n: usize,
+    asked: [u16; State::MOST],
+    connected: [u16; State::MOST],
+) -> Fed
+    ensures { λ r. ⌜ r ≡ feed mostPorts ledger n asked connected ⌝ }
+{
+    let number = refusal(n, ledger.slots, over(ledger));
+    if number == 0 {
+        Fed {
+            number: 0,
+            ledger: next(ledger, n, asked, connected),
+        }
+    } else {
+        Fed { number, ledger }
+    }
+}
+
+// 1 if the row has t.
+pub(crate) fn bit(row: u16, t: usize) -> u32
+    requires { ⌜ t < mostPorts ⌝ }
+    ensures { λ r. ⌜ r ≡ cond (has row t) 1 0 ⌝ }
+{
+    if (row >> t) % 2 == 1 { 1 } else { 0 }
+}
+
+pub(crate) fn hidden(number: u8) -> Shown
+    ensures { λ r. ⌜ r ≡ hidden number ⌝ }
+{
+    Shown {
+        number,
+        figures: Figures {
+            asked: 0,
+            connected: 0,
+            fresh: 0,
+            withdrawn: 0,
+            isopen: 0,
+        },
+    }
+}
+
+pub fn figures_of(ledger: Ledger, i: Initiator, t: Target) -> Shown
+    ensures { λ r. ⌜ r ≡ shown mostPorts ledger (i .0) (t .0) ⌝ }
+{
+    if State::MOST <= i.0 {
+        return hidden(11);
+    }
+    if State::MOST <= t.0 {
+        return hidden(11);
+    }
+    let row = i.0;
+    let at = row * State::MOST + t.0;
+    Shown {
+        number: 0,
+        figures: Figures {
+            asked: ledger.asked[at],
+            connected: ledger.connected[at],
+            fresh: ledger.fresh[at],
+            withdrawn: ledger.withdrawn[at],
+            isopen: bit(ledger.waiting[row], t.0),
+        },
+    }
+}
