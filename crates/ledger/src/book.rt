@@ -66,26 +66,22 @@ impl Ledger {
     }
 }
 
-fn exceeds(counts: [u32; Ledger::PAIRS], x: u32) -> bool
-    ensures { λ r. ⌜ r ≡ above counts x (pairs mostPorts) ⌝ }
+fn exceeds(counts: &[u32; Ledger::PAIRS], x: u32) -> bool
+    ensures { λ r. ⌜ r ≡ above (now (counts .entry)) x (pairs mostPorts) ⌝ }
 {
-    above(&counts, x)
+    above(counts, x)
 }
 
 // A figure is above the slots counted; an open request is one.
 fn over(ledger: Ledger) -> bool
     ensures { λ r. ⌜ r ≡ over mostPorts ledger ⌝ }
 {
-    let asked = ledger.asked;
-    let connected = ledger.connected;
-    let fresh = ledger.fresh;
-    let withdrawn = ledger.withdrawn;
     let waiting = ledger.waiting;
     let x = ledger.slots;
-    exceeds(asked, x)
-        | exceeds(connected, x)
-        | exceeds(fresh, x)
-        | exceeds(withdrawn, x)
+    exceeds(&ledger.asked, x)
+        | exceeds(&ledger.connected, x)
+        | exceeds(&ledger.fresh, x)
+        | exceeds(&ledger.withdrawn, x)
         | ((x < 1) & any(waiting))
 }
 
@@ -102,13 +98,11 @@ pub(crate) fn refusal(n: usize, slots: u32, over: bool) -> u8
     0
 }
 
-fn raised(counts: [u32; Ledger::PAIRS], rows: [u16; State::MOST]) -> [u32; Ledger::PAIRS]
-    requires { ⌜ Room mostPorts counts ⌝ }
-    ensures { λ r. ⌜ r ≡ raised mostPorts rows counts ⌝ }
+fn raise_table(counts: &mut [u32; Ledger::PAIRS], rows: [u16; State::MOST])
+    requires { ⌜ Room mostPorts (now counts) ⌝ }
+    ensures { λ _. ⌜ now (counts .exit) ≡ raised mostPorts rows (now (counts .entry)) ⌝ }
 {
-    let mut table = counts;
-    raise(&mut table, rows);
-    table
+    raise(counts, rows);
 }
 
 // With one slot more.
@@ -123,23 +117,19 @@ fn next(
 {
     let waited = ledger.waiting;
     let slot = happened(n, waited, asked, connected);
+    let to_asked = slot.asked;
+    let to_connected = slot.connected;
+    let to_fresh = slot.fresh;
+    let to_withdrawn = slot.withdrawn;
     let waiting = slot.waiting;
-    let a = ledger.asked;
-    let c = ledger.connected;
-    let f = ledger.fresh;
-    let w = ledger.withdrawn;
-    let to_a = slot.asked;
-    let to_c = slot.connected;
-    let to_f = slot.fresh;
-    let to_w = slot.withdrawn;
-    Ledger {
-        slots: ledger.slots + 1,
-        asked: raised(a, to_a),
-        connected: raised(c, to_c),
-        fresh: raised(f, to_f),
-        withdrawn: raised(w, to_w),
-        waiting,
-    }
+    let mut next = ledger;
+    next.slots = ledger.slots + 1;
+    raise_table(&mut next.asked, to_asked);
+    raise_table(&mut next.connected, to_connected);
+    raise_table(&mut next.fresh, to_fresh);
+    raise_table(&mut next.withdrawn, to_withdrawn);
+    next.waiting = waiting;
+    next
 }
 
 // A served slot of n ports is counted, with the sets asked and the sets connected.

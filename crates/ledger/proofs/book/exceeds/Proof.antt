@@ -9,5 +9,5 @@ use Rattle.ledger.proofs.book.exceeds.Tie as tie
 pub exceeds-spec : {M : Type 1} → statement M
 exceeds-spec =
     tie.close
-    (tie.spec (λ c. search needs) (λ c κs. search needs)
-    (λ c. let long : length (c .before .before .args .t1) ≡ pairs mostPorts = search needs in rw (← long) (c .above .ensures)))
+    (tie.spec (λ c κs. search needs)
+    (λ c. let long : length (c .before .before .args .counts .now) ≡ pairs mostPorts = search needs in rw (← long) (c .above .ensures)))

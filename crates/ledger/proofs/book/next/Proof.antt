@@ -6,39 +6,44 @@ use Rattle.ledger.proofs.Feeds.{countable}
 use Rattle.ledger.proofs.book.next.Statement.{statement}
 use Rattle.ledger.proofs.book.next.Tie as tie
 
-add-t16 : tie.Need-add-t16
-add-t16 c =
-    let start = c .before .before .before .before .before .before .before .before .before .before .before .before in
+add-next : tie.Need-add-next
+add-next c =
+    let start = c .before .before .before .before .before .before .before .before in
     omega (arith, countable mostPorts _ _ (start .pre) .slots)
 
-raised-requires : tie.Need-raised-requires
-raised-requires c κs =
-    let start = c .before .before .before .before .before .before .before .before .before .before .before .before in
+raise-table-requires : tie.Need-raise-table-requires
+raise-table-requires c κs =
+    let start = c .before .before .before .before .before .before .before .before .before in
     countable mostPorts _ _ (start .pre) .asked
 
-raised-requires-2 : tie.Need-raised-requires-2
-raised-requires-2 c κs =
-    let start = c .before .before .before .before .before .before .before .before .before .before .before .before .before in
+raise-table-requires-2 : tie.Need-raise-table-requires-2
+raise-table-requires-2 c κs =
+    let first = c .before in
+    let start = first .before .before .before .before .before .before .before .before .before .before in
     countable mostPorts _ _ (start .pre) .connected
 
-raised-requires-3 : tie.Need-raised-requires-3
-raised-requires-3 c κs =
-    let start = c .before .before .before .before .before .before .before .before .before .before .before .before .before .before in
+raise-table-requires-3 : tie.Need-raise-table-requires-3
+raise-table-requires-3 c κs =
+    let first = c .before .before .before in
+    let start = first .before .before .before .before .before .before .before .before .before .before in
     countable mostPorts _ _ (start .pre) .fresh
 
-raised-requires-4 : tie.Need-raised-requires-4
-raised-requires-4 c κs =
-    let start = c .before .before .before .before .before .before .before .before .before .before .before .before .before .before .before in
+raise-table-requires-4 : tie.Need-raise-table-requires-4
+raise-table-requires-4 c κs =
+    let first = c .before .before .before .before .before in
+    let start = first .before .before .before .before .before .before .before .before .before .before in
     countable mostPorts _ _ (start .pre) .withdrawn
 
 returns : tie.Need-returns
 unfolding next
 returns c =
-    let first = c .before .before .before in
-    let slot = first .before .before .before .before .before .before .before .before .before .before .before in
-    rw (c .raised4 .ensures, c .before .raised3 .ensures, c .before .before .raised2 .ensures, first .raised .ensures, slot .happened .ensures)
+    let third = c .before .before in
+    let second = third .before .before in
+    let first = second .before .before in
+    let slot = first .before .before .before .before .before .before .before .before in
+    rw (c .raise-table4 .ensures, third .raise-table3 .ensures, second .raise-table2 .ensures, first .raise-table .ensures, slot .happened .ensures)
 
 pub next-spec : {M : Type 1} → statement M
 next-spec =
     tie.close
-    (tie.spec (λ c κs. search needs) add-t16 raised-requires raised-requires-2 raised-requires-3 raised-requires-4 returns)
+    (tie.spec (λ c κs. search needs) add-next raise-table-requires raise-table-requires-2 raise-table-requires-3 raise-table-requires-4 returns)
