@@ -10,7 +10,7 @@ use lib.Dec.{ltb}
 use lib.ListN.{length, getD, set, take, drop, replicate, length-append, length-take, length-drop, take-append-drop, replicate-append-replicate, length-replicate}
 use lib.Seq.{getD-take, getD-drop, take-at, drop-at, drop-drop, take-suc, take-suc-set, set-split, length-take-le}
 use lib.Pow.{pow-pos}
-use borrow.Rule.Slice.PartMut.{midOf, putMid}
+use borrow.Rule.Slice.PartMut.{putMid}
 use Rattle.laws.specs.Sets.{has}
 use Rattle.laws.proofs.Rows.{row-map}
 use Rattle.ledger.specs.Counts.{pairs, pair, raised, above, Room}
@@ -32,23 +32,15 @@ pub record Stands (at k : ℕ) (pre part post words : List ℕ) : Type 0 where
   pub size : length part ≡ k
 
 module _ {at k : ℕ} {pre part post words : List ℕ} (s : Stands at k pre part post words) where
-  pub part-of : midOf at k words ≡ part
-  part-of = rw (s .is, drop-at pre (part ++ post) at (s .start), take-at part post k (s .size))
-
   pub reaches : at + k ≤ length words
   reaches = rw (s .is) (omega (arith, length-append pre (part ++ post), length-append part post, s .start, s .size))
 
-  -- it is put anew, and the part after it stands behind the new one
-  pub put-part : (new : List ℕ) → putMid at k words new ≡ pre ++ (new ++ post)
-  put-part new = rw (s .is, take-at pre (part ++ post) at (s .start), drop-at pre (part ++ post) at (s .start), drop-at part post k (s .size))
+  the-part : take k (drop at words) ≡ part
+  the-part = rw (s .is, drop-at pre (part ++ post) at (s .start), take-at part post k (s .size))
 
-  pub part-after : (new : List ℕ) → length new ≡ k → {next rest : List ℕ} → post ≡ next ++ rest → (l : ℕ) → length next ≡ l
-      → Stands (at + k) l (pre ++ new) next rest (putMid at k words new)
-  part-after new size e l long = record {
-    is = put-part new ∙ ap (λ p. pre ++ (new ++ p)) e ∙ sym (append-assoc pre new _);
-    start = length-append pre new ∙ rw (s .start, size);
-    size = long;
-  }
+  -- with something else in its place
+  exchanged : (new : List ℕ) → take at words ++ (new ++ drop k (drop at words)) ≡ pre ++ (new ++ post)
+  exchanged new = rw (s .is, take-at pre (part ++ post) at (s .start), drop-at pre (part ++ post) at (s .start), drop-at part post k (s .size))
 
 -- ---- the sets, one by one
 
@@ -85,25 +77,26 @@ module _ (m : ℕ) (words : List ℕ) (long : length words ≡ wordsLen m) where
 
 -- ---- one slot more
 
--- a table at its place is raised
+-- a table at its place is raised, and what follows stands behind it
 module _ (m : ℕ) {at : ℕ} {pre part post words : List ℕ} (s : Stands at (pairs m) pre part post words) where
-  pub ready : Room m part → (length (midOf at (pairs m) words) ≡ pairs m) × Room m (midOf at (pairs m) words)
-  ready room = rw (part-of s) (s .size, room)
+  pub ready : Room m part → (at + pairs m ≤ length words) × Room m (take (pairs m) (drop at words))
+  ready room = (reaches s, rw (the-part s) room)
 
-  raised-part : (rows : List ℕ) {new : List ℕ} → new ≡ raised m rows (midOf at (pairs m) words) → new ≡ raised m rows part
-  raised-part rows e = e ∙ ap (raised m rows) (part-of s)
+  table-after : (rows : List ℕ) {last next rest : List ℕ} → last ≡ take at words ++ (raised m rows (take (pairs m) (drop at words)) ++ drop (at + pairs m) words)
+      → post ≡ next ++ rest → {k : ℕ} → length next ≡ k → Stands (at + pairs m) k (pre ++ raised m rows part) next rest last
+  table-after rows e is size = record {
+    is = e ∙ rw (← drop-drop (pairs m) at words, the-part s) (exchanged s (raised m rows part) ∙ ap (λ (l : List ℕ). pre ++ (raised m rows part ++ l)) is ∙ sym (append-assoc pre _ _));
+    start = length-append pre (raised m rows part) ∙ rw (s .start, length-raised);
+    size = size;
+  }
 
-  table-after : (rows : List ℕ) {new : List ℕ} → new ≡ raised m rows (midOf at (pairs m) words) → {next rest : List ℕ} → post ≡ next ++ rest
-      → (l : ℕ) → length next ≡ l → Stands (at + pairs m) l (pre ++ new) next rest (putMid at (pairs m) words new)
-  table-after rows {new} e = part-after s new (ap length e ∙ length-raised m rows (midOf at (pairs m) words))
+regrouped : (a c f w r : List ℕ) → (((a ++ c) ++ f) ++ w) ++ (r ++ []) ≡ a ++ (c ++ (f ++ (w ++ r)))
+regrouped a c f w r = simp (append-assoc, append-nil)
 
 -- the first word, then each table behind those that are raised, and the sets at the end
 module _ (m : ℕ) (words : List ℕ) (long : length words ≡ wordsLen m) (slot : Events) where
   abbrev x : ℕ
   x = getD words 0 0 + 1
-
-  abbrev one : List ℕ
-  one = set words 0 x
 
   abbrev table : ℕ → List ℕ
   table = tableOf m words
@@ -111,54 +104,48 @@ module _ (m : ℕ) (words : List ℕ) (long : length words ≡ wordsLen m) (slot
   abbrev sets : List ℕ
   sets = setsOf m words
 
-  pub first-table : Stands 1 (pairs m) (x ∷ []) (table 0) (table 1 ++ (table 2 ++ (table 3 ++ sets))) one
+  -- one more for each pair of `rows`, at `at`
+  abbrev at-place : ℕ → List ℕ → List ℕ → List ℕ
+  at-place at rows now = take at now ++ (raised m rows (take (pairs m) (drop at now)) ++ drop (at + pairs m) now)
+
+  pub first-table : Stands 1 (pairs m) (x ∷ []) (table 0) (table 1 ++ (table 2 ++ (table 3 ++ sets))) (set words 0 x)
   first-table = record {
     is = set-split words 0 x (omega arith) ∙ ap (λ (l : List ℕ). x ∷ l) (rest-is m words long);
     start = refl;
     size = table-size m words long 0 (omega arith);
   }
 
-  module _ {a : List ℕ} (is-a : a ≡ raised m (slot .asked) (midOf 1 (pairs m) one)) where
-    abbrev two : List ℕ
-    two = putMid 1 (pairs m) one a
+  module _ {two : List ℕ} (e : two ≡ at-place 1 (slot .asked) (set words 0 x)) where
+    abbrev asked : List ℕ
+    asked = x ∷ raised m (slot .asked) (table 0)
 
-    pub second-table : Stands (1 + pairs m) (pairs m) (x ∷ a) (table 1) (table 2 ++ (table 3 ++ sets)) two
-    second-table = table-after m first-table (slot .asked) is-a refl (pairs m) (table-size m words long 1 (omega arith))
+    pub second-table : Stands (1 + pairs m) (pairs m) asked (table 1) (table 2 ++ (table 3 ++ sets)) two
+    second-table = table-after m first-table (slot .asked) e refl (table-size m words long 1 (omega arith))
 
-    module _ {c : List ℕ} (is-c : c ≡ raised m (slot .connected) (midOf (1 + pairs m) (pairs m) two)) where
-      abbrev three : List ℕ
-      three = putMid (1 + pairs m) (pairs m) two c
+    module _ {three : List ℕ} (f : three ≡ at-place (1 + pairs m) (slot .connected) two) where
+      abbrev connected : List ℕ
+      connected = asked ++ raised m (slot .connected) (table 1)
 
-      pub third-table : Stands (1 + pairs m + pairs m) (pairs m) (x ∷ (a ++ c)) (table 2) (table 3 ++ sets) three
-      third-table = table-after m second-table (slot .connected) is-c refl (pairs m) (table-size m words long 2 (omega arith))
+      pub third-table : Stands (1 + pairs m + pairs m) (pairs m) connected (table 2) (table 3 ++ sets) three
+      third-table = table-after m second-table (slot .connected) f refl (table-size m words long 2 (omega arith))
 
-      module _ {f : List ℕ} (is-f : f ≡ raised m (slot .fresh) (midOf (1 + pairs m + pairs m) (pairs m) three)) where
-        abbrev four : List ℕ
-        four = putMid (1 + pairs m + pairs m) (pairs m) three f
+      module _ {four : List ℕ} (g : four ≡ at-place (1 + pairs m + pairs m) (slot .fresh) three) where
+        abbrev fresh : List ℕ
+        fresh = connected ++ raised m (slot .fresh) (table 2)
 
-        pub fourth-table : Stands (1 + pairs m + pairs m + pairs m) (pairs m) (x ∷ ((a ++ c) ++ f)) (table 3) sets four
-        fourth-table = table-after m third-table (slot .fresh) is-f refl (pairs m) (table-size m words long 3 (omega arith))
+        pub fourth-table : Stands (1 + pairs m + pairs m + pairs m) (pairs m) fresh (table 3) sets four
+        fourth-table = table-after m third-table (slot .fresh) g refl (table-size m words long 3 (omega arith))
 
-        module _ {w : List ℕ} (is-w : w ≡ raised m (slot .withdrawn) (midOf (1 + pairs m + pairs m + pairs m) (pairs m) four)) where
-          abbrev five : List ℕ
-          five = putMid (1 + pairs m + pairs m + pairs m) (pairs m) four w
+        module _ {five : List ℕ} (h : five ≡ at-place (1 + pairs m + pairs m + pairs m) (slot .withdrawn) four) where
+          pub the-sets : Stands (1 + pairs m + pairs m + pairs m + pairs m) m (fresh ++ raised m (slot .withdrawn) (table 3)) sets [] five
+          the-sets = table-after m fourth-table (slot .withdrawn) h (sym (append-nil sets)) (sets-size m words long)
 
-          pub the-sets : Stands (1 + pairs m + pairs m + pairs m + pairs m) m (x ∷ (((a ++ c) ++ f) ++ w)) sets [] five
-          the-sets = table-after m fourth-table (slot .withdrawn) is-w (sym (append-nil sets)) m (sets-size m words long)
-
-          pub counted-words : (n : ℕ) (asked connected : List ℕ) {last : List ℕ} → slot ≡ happened m n (ledgerOf m words .waiting) asked connected → last ≡ slot .waiting
-              → putMid (1 + pairs m + pairs m + pairs m + pairs m) m five last ≡ wordsOf (next m (ledgerOf m words) n asked connected)
+          pub counted-words : (n : ℕ) (asks connects : List ℕ) {last : List ℕ} → slot ≡ happened m n (ledgerOf m words .waiting) asks connects → last ≡ slot .waiting
+              → putMid (1 + pairs m + pairs m + pairs m + pairs m) m five last ≡ wordsOf (next m (ledgerOf m words) n asks connects)
           unfolding wordsOf next ledgerOf
-          counted-words n asked connected {last} e is-last =
-              put-part the-sets last ∙ simp (append-assoc, append-nil)
-              (rw (
-                raised-part m first-table (slot .asked) is-a,
-                raised-part m second-table (slot .connected) is-c,
-                raised-part m third-table (slot .fresh) is-f,
-                raised-part m fourth-table (slot .withdrawn) is-w,
-                is-last,
-                e,
-              ))
+          counted-words n asks connects {last} is is-last = exchanged the-sets last
+              ∙ ap (λ (l : List ℕ). x ∷ l) (regrouped (raised m (slot .asked) (table 0)) (raised m (slot .connected) (table 1)) (raised m (slot .fresh) (table 2)) (raised m (slot .withdrawn) (table 3)) last)
+              ∙ rw (is-last, is)
 
 -- the figures above the slots counted, in the words
 pub lent-over : (m : ℕ) (words : List ℕ) {waiting part : List ℕ} {a e : Bool} → part ≡ take (4 * pairs m) (drop 1 words) → length part ≡ 4 * pairs m

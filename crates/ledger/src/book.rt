@@ -12,7 +12,7 @@ ghost use Prim.Native.Nat.{_<_};
 ghost use Rattle.frames.specs.Part.{mostPorts};
 ghost use Rattle.laws.specs.Sets.{has};
 ghost use Rattle.ledger.specs.Counts.{pairs, raised, above, Room};
-ghost use Rattle.ledger.specs.Ledger.{empty, hidden, shown, over, refusal, number, next, feed};
+ghost use Rattle.ledger.specs.Ledger.{empty, hidden, figuresOf, shown, over, refusal, number, next, feed};
 
 // Four counts for each pair, and the pairs that were asked and not connected in the last counted slot.
 pub struct Ledger {
@@ -175,6 +175,21 @@ pub(crate) fn hidden(number: u8) -> Shown
     }
 }
 
+fn pair_figures(ledger: Ledger, i: usize, t: usize) -> Figures
+    requires { ⌜ (i < mostPorts) × (t < mostPorts) ⌝ }
+    ensures { λ r. ⌜ r ≡ figuresOf mostPorts ledger i t ⌝ }
+{
+    let at = i * State::MOST + t;
+    Figures {
+        asked: ledger.asked[at],
+        connected: ledger.connected[at],
+        fresh: ledger.fresh[at],
+        withdrawn: ledger.withdrawn[at],
+        isopen: bit(ledger.waiting[i], t),
+    }
+}
+
+// The five figures of the pair (i, t).
 pub fn figures_of(ledger: Ledger, i: Initiator, t: Target) -> Shown
     ensures { λ r. ⌜ r ≡ shown mostPorts ledger (i .0) (t .0) ⌝ }
 {
@@ -184,16 +199,8 @@ pub fn figures_of(ledger: Ledger, i: Initiator, t: Target) -> Shown
     if State::MOST <= t.0 {
         return hidden(11);
     }
-    let row = i.0;
-    let at = row * State::MOST + t.0;
     Shown {
         number: 0,
-        figures: Figures {
-            asked: ledger.asked[at],
-            connected: ledger.connected[at],
-            fresh: ledger.fresh[at],
-            withdrawn: ledger.withdrawn[at],
-            isopen: bit(ledger.waiting[row], t.0),
-        },
+        figures: pair_figures(ledger, i.0, t.0),
     }
 }

@@ -14,10 +14,11 @@ use lcf::State;
 use lcf::Target;
 ghost use mathlib.Core.Path.{_≡_};
 ghost use mathlib.Core.List.{_++_};
-ghost use Prim.Native.Nat.{_%_, _^_};
-ghost use lib.ListN.{length, drop};
+ghost use Prim.Native.Nat.{_+_, _%_, _^_, _≤_, _<_};
+ghost use lib.ListN.{length, take, drop};
 ghost use Rattle.frames.specs.Part.{mostPorts};
-ghost use Rattle.ledger.specs.Ledger.{over, number, next};
+ghost use Rattle.ledger.specs.Counts.{pairs, raised, Room};
+ghost use Rattle.ledger.specs.Ledger.{figuresOf, number, next};
 ghost use Rattle.ledger.specs.Lent.{wordsLen, ledgerOf, wordsOf, lentNumber, lentFeed, lentShown};
 
 const ASKED: usize = 1;
@@ -68,6 +69,15 @@ fn number_of(words: &[u32], n: usize) -> u8
     refusal(n, slots, over)
 }
 
+// One more for each pair of the rows, in the table of counts that starts at `from`.
+fn raise_at(words: &mut [u32], from: usize, rows: [u16; State::MOST])
+    requires { ⌜ (from + pairs mostPorts ≤ length (now words)) × Room mostPorts (take (pairs mostPorts) (drop from (now words))) ⌝ }
+    ensures { λ _. ⌜ now (words .exit) ≡ take from (now (words .entry)) ++ (raised mostPorts rows (take (pairs mostPorts) (drop from (now (words .entry)))) ++ drop (from + pairs mostPorts) (now (words .entry))) ⌝ }
+{
+    let end = from + Ledger::PAIRS;
+    raise(&mut words[from..end], rows);
+}
+
 fn count(words: &mut [u32], n: usize, asked: [u16; State::MOST], connected: [u16; State::MOST])
     requires { ⌜ (length (now words) ≡ wordsLen mostPorts) × (number mostPorts (ledgerOf mostPorts (now words)) n ≡ 0) ⌝ }
     ensures { λ _. ⌜ now (words .exit) ≡ wordsOf (next mostPorts (ledgerOf mostPorts (now (words .entry))) n asked connected) ⌝ }
@@ -79,10 +89,10 @@ fn count(words: &mut [u32], n: usize, asked: [u16; State::MOST], connected: [u16
     let to_withdrawn = slot.withdrawn;
     let waiting = slot.waiting;
     words[0] += 1;
-    raise(&mut words[ASKED..CONNECTED], to_asked);
-    raise(&mut words[CONNECTED..FRESH], to_connected);
-    raise(&mut words[FRESH..WITHDRAWN], to_fresh);
-    raise(&mut words[WITHDRAWN..WAITING], to_withdrawn);
+    raise_at(words, ASKED, to_asked);
+    raise_at(words, CONNECTED, to_connected);
+    raise_at(words, FRESH, to_fresh);
+    raise_at(words, WITHDRAWN, to_withdrawn);
     put_sets(waiting, &mut words[WAITING..WORDS]);
 }
 
@@ -106,7 +116,21 @@ pub fn feed_lent(
     0
 }
 
-// The figures of a pair in lent words.
+fn pair_figures(words: &[u32], i: usize, t: usize) -> Figures
+    requires { ⌜ (length (now words) ≡ wordsLen mostPorts) × (i < mostPorts) × (t < mostPorts) ⌝ }
+    ensures { λ r. ⌜ r ≡ figuresOf mostPorts (ledgerOf mostPorts (now (words .entry))) i t ⌝ }
+{
+    let at = i * State::MOST + t;
+    Figures {
+        asked: words[ASKED + at],
+        connected: words[CONNECTED + at],
+        fresh: words[FRESH + at],
+        withdrawn: words[WITHDRAWN + at],
+        isopen: bit(low(words[WAITING + i]), t),
+    }
+}
+
+// The five figures of the pair (i, t) in lent words.
 pub fn figures_lent(words: &[u32], i: Initiator, t: Target) -> Shown
     ensures { λ r. ⌜ r ≡ lentShown mostPorts (now (words .entry)) (i .0) (t .0) ⌝ }
 {
@@ -119,16 +143,8 @@ pub fn figures_lent(words: &[u32], i: Initiator, t: Target) -> Shown
     if State::MOST <= t.0 {
         return hidden(11);
     }
-    let row = i.0;
-    let at = row * State::MOST + t.0;
     Shown {
         number: 0,
-        figures: Figures {
-            asked: words[ASKED + at],
-            connected: words[CONNECTED + at],
-            fresh: words[FRESH + at],
-            withdrawn: words[WITHDRAWN + at],
-            isopen: bit(low(words[WAITING + row]), t.0),
-        },
+        figures: pair_figures(words, i.0, t.0),
     }
 }

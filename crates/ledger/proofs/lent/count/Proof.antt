@@ -1,5 +1,5 @@
 use borrow.Author.Needs.{needs}
-use mathlib.Core.Path.{_≡_, refl, sym, ap, _∙_}
+use mathlib.Core.Path.{_∙_}
 use native.Mathlib.Omega.{arith}
 use lib.ListN.{length-set}
 use Rattle.frames.specs.Part.{mostPorts}
@@ -15,71 +15,41 @@ add-words c =
     let start = c .before .before .before .before .before .before .before .before .before .before in
     omega (arith, countable mostPorts _ _ (start .pre .1) .slots)
 
-part-raise-end : tie.Need-part-raise-end
-part-raise-end c =
-    let slot = c .before .before .before .before .before .before in
-    let start = slot .before .before .before .before in
-    reaches (first-table mostPorts (start .args .words .now) (start .pre .0) (slot .happened .result))
-
-raise-requires : tie.Need-raise-requires
+raise-at-requires : tie.Need-raise-at-requires
 unfolding ledgerOf
-raise-requires c κs =
+raise-at-requires c κs =
     let slot = c .before .before .before .before .before .before .before in
     let start = slot .before .before .before .before in
     ready mostPorts (first-table mostPorts (start .args .words .now) (start .pre .0) (slot .happened .result)) (countable mostPorts _ _ (start .pre .1) .asked)
 
-part-raise-end-2 : tie.Need-part-raise-end-2
-part-raise-end-2 c =
-    let first = c .before .before in
-    let slot = first .before .before .before .before .before .before .before .before in
-    let start = slot .before .before .before .before in
-    reaches (second-table mostPorts (start .args .words .now) (start .pre .0) (slot .happened .result) (first .raise .ensures))
-
-raise-requires-2 : tie.Need-raise-requires-2
+raise-at-requires-2 : tie.Need-raise-at-requires-2
 unfolding ledgerOf
-raise-requires-2 c κs =
+raise-at-requires-2 c κs =
     let first = c .before .before .before in
     let slot = first .before .before .before .before .before .before .before .before in
     let start = slot .before .before .before .before in
-    ready mostPorts (second-table mostPorts (start .args .words .now) (start .pre .0) (slot .happened .result) (first .raise .ensures))
+    ready mostPorts (second-table mostPorts (start .args .words .now) (start .pre .0) (slot .happened .result) (first .raise-at .ensures))
     (countable mostPorts _ _ (start .pre .1) .connected)
 
-part-raise-end-3 : tie.Need-part-raise-end-3
-part-raise-end-3 c =
-    let second = c .before .before in
-    let first = second .before .before .before .before in
-    let slot = first .before .before .before .before .before .before .before .before in
-    let start = slot .before .before .before .before in
-    reaches (third-table mostPorts (start .args .words .now) (start .pre .0) (slot .happened .result) (first .raise .ensures) (second .raise2 .ensures))
-
-raise-requires-3 : tie.Need-raise-requires-3
+raise-at-requires-3 : tie.Need-raise-at-requires-3
 unfolding ledgerOf
-raise-requires-3 c κs =
+raise-at-requires-3 c κs =
     let second = c .before .before .before in
     let first = second .before .before .before .before in
     let slot = first .before .before .before .before .before .before .before .before in
     let start = slot .before .before .before .before in
-    ready mostPorts (third-table mostPorts (start .args .words .now) (start .pre .0) (slot .happened .result) (first .raise .ensures) (second .raise2 .ensures))
+    ready mostPorts (third-table mostPorts (start .args .words .now) (start .pre .0) (slot .happened .result) (first .raise-at .ensures) (second .raise-at2 .ensures))
     (countable mostPorts _ _ (start .pre .1) .fresh)
 
-part-raise-end-4 : tie.Need-part-raise-end-4
-part-raise-end-4 c =
-    let third = c .before .before in
-    let second = third .before .before .before .before in
-    let first = second .before .before .before .before in
-    let slot = first .before .before .before .before .before .before .before .before in
-    let start = slot .before .before .before .before in
-    reaches (fourth-table mostPorts (start .args .words .now) (start .pre .0) (slot .happened .result) (first .raise .ensures) (second .raise2 .ensures) (third .raise3 .ensures))
-
-raise-requires-4 : tie.Need-raise-requires-4
+raise-at-requires-4 : tie.Need-raise-at-requires-4
 unfolding ledgerOf
-raise-requires-4 c κs =
+raise-at-requires-4 c κs =
     let third = c .before .before .before in
     let second = third .before .before .before .before in
     let first = second .before .before .before .before in
     let slot = first .before .before .before .before .before .before .before .before in
     let start = slot .before .before .before .before in
-    ready mostPorts (fourth-table mostPorts (start .args .words .now) (start .pre .0) (slot .happened .result) (first .raise .ensures) (second .raise2 .ensures) (third .raise3 .ensures))
+    ready mostPorts (fourth-table mostPorts (start .args .words .now) (start .pre .0) (slot .happened .result) (first .raise-at .ensures) (second .raise-at2 .ensures) (third .raise-at3 .ensures))
     (countable mostPorts _ _ (start .pre .1) .withdrawn)
 
 part-put-sets-end : tie.Need-part-put-sets-end
@@ -90,36 +60,32 @@ part-put-sets-end c =
     let first = second .before .before .before .before in
     let slot = first .before .before .before .before .before .before .before .before in
     let start = slot .before .before .before .before in
-    reaches (the-sets mostPorts (start .args .words .now) (start .pre .0) (slot .happened .result) (first .raise .ensures) (second .raise2 .ensures) (third .raise3 .ensures) (fourth .raise4 .ensures))
+    reaches (the-sets mostPorts (start .args .words .now) (start .pre .0) (slot .happened .result) (first .raise-at .ensures) (second .raise-at2 .ensures) (third .raise-at3 .ensures) (fourth .raise-at4 .ensures))
 
 same-length : tie.Need-same-length
 same-length c =
-    let put = c .before in
-    let fourth = put .before .before .before .before in
+    let last = c .before in
+    let fourth = last .before .before .before .before in
     let third = fourth .before .before .before .before in
     let second = third .before .before .before .before in
     let first = second .before .before .before .before in
-    put .words5 .given .1 ∙ fourth .words4 .given .1 ∙ third .words3 .given .1 ∙ second .words2 .given .1 ∙ first .words .given .1 ∙ simp length-set
+    last .words5 .given .1 ∙ fourth .words4 .given ∙ third .words3 .given ∙ second .words2 .given ∙ first .words .given ∙ simp length-set
 
 returns : tie.Need-returns
 returns c =
-    let put = c .before .before in
-    let fourth = put .before .before .before .before in
+    let last = c .before .before in
+    let fourth = last .before .before .before .before in
     let third = fourth .before .before .before .before in
     let second = third .before .before .before .before in
     let first = second .before .before .before .before in
     let slot = first .before .before .before .before .before .before .before .before in
     let start = slot .before .before .before .before in
-    counted-words mostPorts (start .args .words .now) (start .pre .0) (slot .happened .result)
-    (first .raise .ensures) (second .raise2 .ensures) (third .raise3 .ensures) (fourth .raise4 .ensures) _ _ _
-    (rw (← slot .before .waiting-of .ensures) (slot .happened .ensures)) (put .put-sets .ensures)
+    counted-words mostPorts (start .args .words .now) (start .pre .0) (slot .happened .result) (first .raise-at .ensures) (second .raise-at2 .ensures) (third .raise-at3 .ensures) (fourth .raise-at4 .ensures)
+    _ _ _ (rw (← slot .before .waiting-of .ensures) (slot .happened .ensures)) (last .put-sets .ensures)
 
 pub count-spec : {M : Type 1} → statement M
 count-spec =
     tie.close
-    (tie.spec (λ c κs. search needs) (λ c κs. search needs) (λ c. search needs) add-words
-    (λ c. search needs) (λ c. search needs) (λ c. search needs) part-raise-end raise-requires
-    (λ c. search needs) (λ c. search needs) part-raise-end-2 raise-requires-2
-    (λ c. search needs) (λ c. search needs) part-raise-end-3 raise-requires-3
-    (λ c. search needs) (λ c. search needs) part-raise-end-4 raise-requires-4
+    (tie.spec (λ c κs. search needs) (λ c κs. search needs) (λ c. search needs) add-words (λ c. search needs)
+    raise-at-requires raise-at-requires-2 raise-at-requires-3 raise-at-requires-4
     (λ c. search needs) (λ c. search needs) part-put-sets-end (λ c κs. search needs) same-length returns)
