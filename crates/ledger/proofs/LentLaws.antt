@@ -35,7 +35,10 @@ module _ {at k : ℕ} {pre part post words : List ℕ} (s : Stands at k pre part
   pub reaches : at + k ≤ length words
   reaches = rw (s .is) (omega (arith, length-append pre (part ++ post), length-append part post, s .start, s .size))
 
-  the-part : take k (drop at words) ≡ part
+  pub rest-from : drop at words ≡ part ++ post
+  rest-from = rw (s .is, drop-at pre (part ++ post) at (s .start))
+
+  pub the-part : take k (drop at words) ≡ part
   the-part = rw (s .is, drop-at pre (part ++ post) at (s .start), take-at part post k (s .size))
 
   -- with something else in its place

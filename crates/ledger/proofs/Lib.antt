@@ -5,4 +5,6 @@ pub mod Feeds
 pub mod Balance
 pub mod Told
 pub mod LentLaws
+pub mod LentHistory
+pub mod Cases
 pub mod Unique

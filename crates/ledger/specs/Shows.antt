@@ -4,8 +4,9 @@ use mathlib.Core.Path.{_≡_}
 use mathlib.Core.Bool.{cond}
 use mathlib.Core.List.{List, [], _∷_}
 use lib.Dec.{eqb}
-use lib.ListN.{length}
+use lib.ListN.{length, replicate}
 use Rattle.ledger.specs.Ledger.{empty, figuresOf, feed}
+use Rattle.ledger.specs.Lent.{wordsLen, lentFeed}
 use Rattle.ledger.specs.History.{Feed, isAsked, isConnected, isFresh, isWithdrawn, howOften, isOpen}
 use Rattle.ledger.specs.declared.book.Ledger.{Ledger}
 use Rattle.ledger.specs.declared.book.Figures.{Figures}
@@ -23,6 +24,11 @@ fed m (f ∷ before) = fedWith m (fed m before) f .ledger
 unfoldable pub counted : ℕ → List Feed → List Feed
 counted m [] = []
 counted m (f ∷ before) = cond (eqb (fedWith m (fed m before) f .number) 0) (f ∷ counted m before) (counted m before)
+
+-- the same in lent words, which zeros fill at the start
+unfoldable pub lentFed : ℕ → List Feed → List ℕ
+lentFed m [] = replicate (wordsLen m) 0
+lentFed m (f ∷ before) = lentFeed m (lentFed m before) (f .ports) (f .asked) (f .connected)
 
 -- the history's figures of a pair
 abbrev pub told : List Feed → ℕ → ℕ → Figures
