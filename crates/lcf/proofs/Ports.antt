@@ -1,18 +1,20 @@
 -- A table as n ports see it: no more ports than rows count, and no more bits than a row has.
-use mathlib.Core.Path.{_≡_, refl, sym, _∙_}
-use mathlib.Core.Bool.{Bool, true, false}
+use mathlib.Core.Path.{_≡_, refl, sym, ap, _∙_}
+use mathlib.Core.Bool.{Bool, true, false, _&&_}
 use mathlib.Core.List.{List}
 use Prim.Native.Nat.{ℕ, min, _+_, _-_, _%_, _^_, _≤_, _<_}
 use native.Mathlib.Nat.{mod-eq-of-lt, lt-of-lt-of-le}
 use native.Mathlib.Omega.{arith}
-use borrow.Author.Tests.{leb-true, leb-false}
-use lib.Dec.{leb}
+use borrow.Author.Tests.{leb-true, leb-false, ltb-true, lt-ltb}
+use lib.Dec.{ltb, leb}
 use lib.ListN.{length, getD}
 use lib.Pow.{pow-mono}
 use lib.Seq.{set-out}
-use Rattle.laws.specs.Sets.{tabled}
+use Rattle.laws.specs.Sets.{has, asks, tabled}
 use Rattle.laws.proofs.Loops.{same-steps, stays}
-use Rattle.laws.proofs.Rows.{length-tabled}
+use Rattle.laws.proofs.Members.{tabled-asks, asks-row, below-has, has-below}
+use Rattle.laws.proofs.Rows.{length-tabled, row-tabled}
+use Rattle.laws.proofs.Tests.{both, every, same}
 use Rattle.lcf.specs.Slot.{within}
 
 -- the first k rows cut to k bits, where k is the ports n and at most m, in a table of m rows of m bits
@@ -34,3 +36,14 @@ as-ports-see m n k rows l small q e = e ∙ go (leb n m) refl
         let h : m ≤ n = omega (arith, leb-false n m t) in
         let g : m + (n - m) ≡ n = omega arith in
         rw (p, l) (same-steps _ _ _ m (λ i u b. rw (whole i h)) ∙ (rw g at (sym (past (n - m)))))
+
+-- which pairs n ports see
+pub asks-within : (n : ℕ) (rows : List ℕ) (i t : ℕ) → asks (within n rows) i t ≡ (ltb i n && ltb t n && asks rows i t)
+unfolding within
+asks-within n rows i t = same _ _
+    (λ e. let (l, h) = tabled-asks (length rows) _ n i t e in
+    let (g, a) = below-has (getD rows i 0) n t h in
+    every (every (lt-ltb i n l) (lt-ltb t n g)) a)
+    (λ e. let (r, a) = both (ltb i n && ltb t n) (asks rows i t) e in
+    let (l, g) = both (ltb i n) (ltb t n) r in
+    ap (λ s. has s t) (row-tabled (length rows) _ n i (ltb-true i n l) (asks-row rows i t a)) ∙ has-below (getD rows i 0) n t (ltb-true t n g) ∙ a)

@@ -6,15 +6,11 @@ use Prim.Native.Nat.{ℕ, zero, suc, _/_, _%_, _^_, _<_}
 use native.Mathlib.Nat.{mod-lt}
 use native.Mathlib.Omega.{arith}
 use lib.Bits.{bitAnd, bitXor, and-shr, and-mod, xor-shr, xor-mod}
-use lib.Dec.{eqb, ltb}
-use lib.ListN.{getD, length}
-use borrow.Author.Tests.{ltb-true, lt-ltb}
+use lib.Dec.{eqb}
+use lib.ListN.{getD}
 use Rattle.laws.specs.Sets.{digit, has, asks}
-use Rattle.laws.proofs.Tests.{both, every, same}
 use Rattle.laws.proofs.Rows.{row-tabled}
-use Rattle.laws.proofs.Members.{tabled-asks, asks-row, below-has, has-below}
 use Rattle.laws.proofs.Words.{has-and}
-use Rattle.lcf.specs.Slot.{within}
 use Rattle.ledger.specs.Events.{but, meet, less}
 
 digit-but : (a b k : ℕ) → digit (but a b) k ≡ but (digit a k) (digit b k)
@@ -41,14 +37,3 @@ module _ (m : ℕ) (a b : List ℕ) (i t : ℕ) (h : i < m) where
   pub asks-less : asks (less m a b) i t ≡ (asks a i t && not (asks b i t))
   unfolding less
   asks-less = ap (λ s. has s t) (row-tabled m _ m i h h) ∙ has-but _ _ t
-
--- rows and bits at or above n are ignored
-pub asks-within : (n : ℕ) (rows : List ℕ) (i t : ℕ) → asks (within n rows) i t ≡ (ltb i n && ltb t n && asks rows i t)
-unfolding within
-asks-within n rows i t = same _ _
-    (λ e. let (l, h) = tabled-asks (length rows) _ n i t e in
-    let (g, a) = below-has (getD rows i 0) n t h in
-    every (every (lt-ltb i n l) (lt-ltb t n g)) a)
-    (λ e. let (r, a) = both (ltb i n && ltb t n) (asks rows i t) e in
-    let (l, g) = both (ltb i n) (ltb t n) r in
-    ap (λ s. has s t) (row-tabled (length rows) _ n i (ltb-true i n l) (asks-row rows i t a)) ∙ has-below (getD rows i 0) n t (ltb-true t n g) ∙ a)

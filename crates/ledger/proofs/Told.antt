@@ -16,6 +16,7 @@ use Rattle.laws.proofs.Members.{asks-empty}
 use Rattle.laws.proofs.Steps.{some-true}
 use Rattle.laws.proofs.Tests.{refuted}
 use Rattle.lcf.specs.Slot.{within}
+use Rattle.lcf.proofs.Ports.{asks-within}
 use Rattle.ledger.specs.Counts.{pairs, pair, raised, mostSlots}
 use Rattle.ledger.specs.Events.{meet, less, happened}
 use Rattle.ledger.specs.Ledger.{empty, figuresOf, high, over, refusal, number, next}
@@ -23,7 +24,7 @@ use Rattle.ledger.specs.History.{Feed, Event, inside, asked, connected, 
 use Rattle.ledger.specs.Shows.{fed, counted, told, Shows}
 use Rattle.ledger.specs.declared.book.Ledger.{Ledger}
 use Rattle.ledger.specs.declared.book.Figures.{Figures}
-use Rattle.ledger.proofs.EventLaws.{asks-meet, asks-less, asks-within}
+use Rattle.ledger.proofs.EventLaws.{asks-meet, asks-less}
 use Rattle.ledger.proofs.CountLaws.{raised-pair}
 use Rattle.ledger.proofs.OverLaws.{any-of}
 use Rattle.ledger.proofs.Balance.{fresh-waited, balance, open-or-not, often-below, open-below}

@@ -4,7 +4,9 @@ use crate::counts::raise;
 use crate::events::any;
 use crate::events::happened;
 use lcf::Initiator;
+use lcf::Set;
 use lcf::State;
+use lcf::Table;
 use lcf::Target;
 ghost use mathlib.Core.Path.{_≡_};
 ghost use mathlib.Core.Bool.{cond};
@@ -21,7 +23,7 @@ pub struct Ledger {
     pub connected: [u32; Ledger::PAIRS],
     pub fresh: [u32; Ledger::PAIRS],
     pub withdrawn: [u32; Ledger::PAIRS],
-    pub waiting: [u16; State::MOST],
+    pub waiting: Table,
 }
 
 // The number of a feed, and the ledger after it: as it was, if the number is not 0.
@@ -98,7 +100,7 @@ pub(crate) fn refusal(n: usize, slots: u32, over: bool) -> u8
     0
 }
 
-fn raise_table(counts: &mut [u32; Ledger::PAIRS], rows: [u16; State::MOST])
+fn raise_table(counts: &mut [u32; Ledger::PAIRS], rows: Table)
     requires { ⌜ Room mostPorts (now counts) ⌝ }
     ensures { λ _. ⌜ now (counts .exit) ≡ raised mostPorts rows (now (counts .entry)) ⌝ }
 {
@@ -109,8 +111,8 @@ fn raise_table(counts: &mut [u32; Ledger::PAIRS], rows: [u16; State::MOST])
 fn next(
     ledger: Ledger,
     n: usize,
-    asked: [u16; State::MOST],
-    connected: [u16; State::MOST],
+    asked: Table,
+    connected: Table,
 ) -> Ledger
     requires { ⌜ number mostPorts ledger n ≡ 0 ⌝ }
     ensures { λ r. ⌜ r ≡ next mostPorts ledger n asked connected ⌝ }
@@ -136,8 +138,8 @@ fn next(
 pub fn feed(
     ledger: Ledger,
     n: usize,
-    asked: [u16; State::MOST],
-    connected: [u16; State::MOST],
+    asked: Table,
+    connected: Table,
 ) -> Fed
     ensures { λ r. ⌜ r ≡ feed mostPorts ledger n asked connected ⌝ }
 {
@@ -153,11 +155,10 @@ pub fn feed(
 }
 
 // 1 if the row has t.
-pub(crate) fn bit(row: u16, t: usize) -> u32
-    requires { ⌜ t < mostPorts ⌝ }
+pub(crate) fn bit(row: Set, t: usize) -> u32
     ensures { λ r. ⌜ r ≡ cond (has row t) 1 0 ⌝ }
 {
-    if (row >> t) % 2 == 1 { 1 } else { 0 }
+    if words::holds(row, t) { 1 } else { 0 }
 }
 
 pub(crate) fn hidden(number: u8) -> Shown

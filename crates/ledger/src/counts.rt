@@ -1,5 +1,7 @@
 // Tables of counts, a count for each pair: that of (i, t) is number i * State::MOST + t.
+use lcf::Set;
 use lcf::State;
+use lcf::Table;
 ghost use mathlib.Core.Path.{_≡_};
 ghost use mathlib.Core.Bool.{_&&_, cond};
 ghost use Prim.Native.Nat.{ℕ, _+_, _-_, _≤_, _<_};
@@ -10,7 +12,7 @@ ghost use Rattle.laws.specs.Sets.{has};
 ghost use Rattle.ledger.specs.Counts.{pairs, raised, above, mostSlots, Room};
 
 // One more for each t of the row, at number from + t. Only the bits that are set are visited.
-fn raise_row(counts: &mut [u32], from: usize, row: u16)
+fn raise_row(counts: &mut [u32], from: usize, row: Set)
     requires { ⌜ (from + mostPorts ≤ length (now counts)) × ((t : ℕ) → t < mostPorts → getD (now counts) (from + t) 0 < mostSlots) ⌝ }
     ensures { λ _. ⌜ (length (now (counts .exit)) ≡ length (now (counts .entry))) × ((k : ℕ) → getD (now (counts .exit)) k 0 ≡ getD (now (counts .entry)) k 0 + cond (leb from k && has row (k - from)) 1 0) ⌝ }
 {
@@ -22,7 +24,7 @@ fn raise_row(counts: &mut [u32], from: usize, row: u16)
     }
 }
 
-pub(crate) fn raise(counts: &mut [u32], rows: [u16; State::MOST])
+pub(crate) fn raise(counts: &mut [u32], rows: Table)
     requires { ⌜ (length (now counts) ≡ pairs mostPorts) × Room mostPorts (now counts) ⌝ }
     ensures { λ _. ⌜ now (counts .exit) ≡ raised mostPorts rows (now (counts .entry)) ⌝ }
 {

@@ -1,5 +1,7 @@
 // What a slot is to the pairs of a shelf.
+use lcf::Set;
 use lcf::State;
+use lcf::Table;
 ghost use mathlib.Core.Path.{_≡_};
 ghost use mathlib.Core.Bool.{not};
 ghost use Prim.Native.Nat.{ℕ, _^_, _<_};
@@ -12,26 +14,26 @@ ghost use Rattle.ledger.specs.Events.{but, meet, less, happened};
 
 // The pairs that are asked, connected while asked, fresh and withdrawn, and those that wait after the slot.
 pub struct Events {
-    pub asked: [u16; State::MOST],
-    pub connected: [u16; State::MOST],
-    pub fresh: [u16; State::MOST],
-    pub withdrawn: [u16; State::MOST],
-    pub waiting: [u16; State::MOST],
+    pub asked: Table,
+    pub connected: Table,
+    pub fresh: Table,
+    pub withdrawn: Table,
+    pub waiting: Table,
 }
 
-fn and(a: u16, b: u16) -> u16
+fn and(a: Set, b: Set) -> Set
     ensures { λ r. ⌜ r ≡ bitAnd a b ⌝ }
 {
     a & b
 }
 
-fn but(a: u16, b: u16) -> u16
+fn but(a: Set, b: Set) -> Set
     ensures { λ r. ⌜ r ≡ but a b ⌝ }
 {
     a ^ (a & b)
 }
 
-fn meet(a: [u16; State::MOST], b: [u16; State::MOST]) -> [u16; State::MOST]
+fn meet(a: Table, b: Table) -> Table
     ensures { λ r. ⌜ r ≡ meet mostPorts a b ⌝ }
 {
     let mut table = State::empty_table();
@@ -41,7 +43,7 @@ fn meet(a: [u16; State::MOST], b: [u16; State::MOST]) -> [u16; State::MOST]
     table
 }
 
-fn less(a: [u16; State::MOST], b: [u16; State::MOST]) -> [u16; State::MOST]
+fn less(a: Table, b: Table) -> Table
     ensures { λ r. ⌜ r ≡ less mostPorts a b ⌝ }
 {
     let mut table = State::empty_table();
@@ -52,7 +54,7 @@ fn less(a: [u16; State::MOST], b: [u16; State::MOST]) -> [u16; State::MOST]
 }
 
 // A pair is in the table, whose rows are sets of ports.
-pub(crate) fn any(rows: [u16; State::MOST]) -> bool
+pub(crate) fn any(rows: Table) -> bool
     ensures { λ r. ⌜ (r ≡ some (λ i. not (eqb (getD rows i 0) 0)) mostPorts) × ((i : ℕ) → getD rows i 0 < 2 ^ mostPorts) ⌝ }
 {
     let mut found = false;
@@ -64,9 +66,9 @@ pub(crate) fn any(rows: [u16; State::MOST]) -> bool
 
 pub(crate) fn happened(
     n: usize,
-    waited: [u16; State::MOST],
-    asked: [u16; State::MOST],
-    connected: [u16; State::MOST],
+    waited: Table,
+    asked: Table,
+    connected: Table,
 ) -> Events
     ensures { λ r. ⌜ r ≡ happened mostPorts n waited asked connected ⌝ }
 {

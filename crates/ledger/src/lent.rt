@@ -10,7 +10,9 @@ use crate::counts::raise;
 use crate::events::any;
 use crate::events::happened;
 use lcf::Initiator;
+use lcf::Set;
 use lcf::State;
+use lcf::Table;
 use lcf::Target;
 ghost use mathlib.Core.Path.{_≡_};
 ghost use mathlib.Core.List.{_++_};
@@ -34,13 +36,13 @@ const WAITING: usize = WITHDRAWN + Ledger::PAIRS;
 const WORDS: usize = WAITING + State::MOST;
 
 // The bits of a set; those above are ignored.
-fn low(word: u32) -> u16
+fn low(word: u32) -> Set
     ensures { λ r. ⌜ r ≡ word % 2 ^ mostPorts ⌝ }
 {
-    (word % 65536) as u16
+    (word % 65536) as Set
 }
 
-fn waiting_of(words: &[u32]) -> [u16; State::MOST]
+fn waiting_of(words: &[u32]) -> Table
     requires { ⌜ length (now words) ≡ wordsLen mostPorts ⌝ }
     ensures { λ r. ⌜ r ≡ ledgerOf mostPorts (now (words .entry)) .waiting ⌝ }
 {
@@ -51,7 +53,7 @@ fn waiting_of(words: &[u32]) -> [u16; State::MOST]
     table
 }
 
-fn put_sets(sets: [u16; State::MOST], words: &mut [u32])
+fn put_sets(sets: Table, words: &mut [u32])
     requires { ⌜ length (now words) ≡ mostPorts ⌝ }
     ensures { λ _. ⌜ now (words .exit) ≡ sets ⌝ }
 {
@@ -70,7 +72,7 @@ fn number_of(words: &[u32], n: usize) -> u8
 }
 
 // One more for each pair of the rows, in the table of counts that starts at `from`.
-fn raise_at(words: &mut [u32], from: usize, rows: [u16; State::MOST])
+fn raise_at(words: &mut [u32], from: usize, rows: Table)
     requires { ⌜ (from + pairs mostPorts ≤ length (now words)) × Room mostPorts (take (pairs mostPorts) (drop from (now words))) ⌝ }
     ensures { λ _. ⌜ now (words .exit) ≡ take from (now (words .entry)) ++ (raised mostPorts rows (take (pairs mostPorts) (drop from (now (words .entry)))) ++ drop (from + pairs mostPorts) (now (words .entry))) ⌝ }
 {
@@ -78,7 +80,7 @@ fn raise_at(words: &mut [u32], from: usize, rows: [u16; State::MOST])
     raise(&mut words[from..end], rows);
 }
 
-fn count(words: &mut [u32], n: usize, asked: [u16; State::MOST], connected: [u16; State::MOST])
+fn count(words: &mut [u32], n: usize, asked: Table, connected: Table)
     requires { ⌜ (length (now words) ≡ wordsLen mostPorts) × (number mostPorts (ledgerOf mostPorts (now words)) n ≡ 0) ⌝ }
     ensures { λ _. ⌜ now (words .exit) ≡ wordsOf (next mostPorts (ledgerOf mostPorts (now (words .entry))) n asked connected) ⌝ }
 {
@@ -100,8 +102,8 @@ fn count(words: &mut [u32], n: usize, asked: [u16; State::MOST], connected: [u16
 pub fn feed_lent(
     words: &mut [u32],
     n: usize,
-    asked: [u16; State::MOST],
-    connected: [u16; State::MOST],
+    asked: Table,
+    connected: Table,
 ) -> u8
     ensures { λ r. ⌜ (r ≡ lentNumber mostPorts (now (words .entry)) n) × (now (words .exit) ≡ lentFeed mostPorts (now (words .entry)) n asked connected) ⌝ }
 {
