@@ -1,3 +1,4 @@
+pub mod Asking
 pub mod Granting
 pub mod Hearing
 pub mod Lowest

@@ -1,3 +1,4 @@
+pub mod Asked
 pub mod Grants
 pub mod Hosts
 pub mod Step

@@ -4,6 +4,7 @@ ghost use Rattle.frames.specs.Part.{mostPorts};
 ghost use Rattle.shelf.specs.Step.{refusal, slotOnHosts, stepped, output};
 use crate::grants::write_grants;
 use crate::hosts::Hosts;
+use crate::hosts::count_hosts;
 use crate::hosts::hear;
 use frames::Config;
 use frames::Grant;
@@ -31,10 +32,7 @@ fn refusal(state: State, slot: u32, mode: Mode, block: &[u8], out: &[u8]) -> u8
 fn slot_on_hosts(state: State, slot: u32, mode: Mode, hosts: Hosts) -> Stepped
     ensures { λ r. ⌜ r ≡ slotOnHosts mostPorts state slot mode hosts ⌝ }
 {
-    let ben = hosts.ben;
-    let req = hosts.req;
-    let pre = hosts.pre;
-    let counted = lcf::counted(state.ports, hosts.heard, ben, req, pre);
+    let counted = count_hosts(state.ports, hosts);
     let asked = counted.req;
     let claimed = counted.pre;
     lcf::slot_on_tables(state, slot, mode, asked, claimed)

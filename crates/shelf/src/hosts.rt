@@ -3,11 +3,13 @@ ghost use mathlib.Core.Path.{_≡_};
 ghost use Prim.Native.Nat.{_≤_};
 ghost use Rattle.frames.specs.Part.{mostPorts};
 ghost use Rattle.frames.specs.Config.{configAnswer};
+ghost use Rattle.lcf.specs.Heard.{tables};
 ghost use Rattle.shelf.specs.Hosts.{said, hostsOf};
 use frames::ConfigRead;
 use lcf::Set;
 use lcf::State;
 use lcf::Table;
+use lcf::Tables;
 
 pub struct Hosts {
     pub heard: Set,
@@ -47,4 +49,14 @@ pub(crate) fn hear(ports: usize, block: &[u8]) -> Hosts
         pre,
         ben,
     }
+}
+
+// What counts of req and pre (rules 1 and 2).
+pub(crate) fn count_hosts(ports: usize, hosts: Hosts) -> Tables
+    ensures { λ r. ⌜ r ≡ tables ports (hosts .heard) (hosts .ben) (hosts .req) (hosts .pre) ⌝ }
+{
+    let ben = hosts.ben;
+    let req = hosts.req;
+    let pre = hosts.pre;
+    lcf::counted(ports, hosts.heard, ben, req, pre)
 }

@@ -8,4 +8,4 @@ pub slot-on-hosts-spec : {M : Type 1} → statement M
 slot-on-hosts-spec =
     tie.close
     (tie.spec (λ c κs. search needs) (λ c κs. search needs)
-    (λ c. on-hosts mostPorts _ _ _ _ _ _ (c .before .before .before .counted .ensures) (c .slot-on-tables .ensures)))
+    (λ c. on-hosts mostPorts _ _ _ _ _ _ (c .before .before .before .count-hosts .ensures) (c .slot-on-tables .ensures)))

@@ -1,0 +1,46 @@
+// The sets asked in a slot, which the ledger is fed.
+ghost use mathlib.Core.Path.{_≡_};
+ghost use Rattle.frames.specs.Part.{mostPorts};
+ghost use Rattle.shelf.specs.Asked.{blockNumber, setsAsked};
+use crate::hosts::count_hosts;
+use crate::hosts::hear;
+use frames::Config;
+use lcf::State;
+use lcf::Table;
+
+// The number, and the sets: empty, if the number is not 0.
+pub struct Asked {
+    pub number: u8,
+    pub sets: Table,
+}
+
+fn block_number(n: usize, block: &[u8]) -> u8
+    ensures { λ r. ⌜ r ≡ blockNumber mostPorts n (now (block .entry)) ⌝ }
+{
+    if (n < 1) | (State::MOST < n) {
+        return 1;
+    }
+    if block.len() != n * Config::LEN {
+        return 6;
+    }
+    0
+}
+
+// For each host of n, the targets below n in its req, if it is heard and enabled.
+pub fn sets_asked(n: usize, block: &[u8]) -> Asked
+    ensures { λ r. ⌜ r ≡ setsAsked mostPorts n (now (block .entry)) ⌝ }
+{
+    let number = block_number(n, block);
+    if number != 0 {
+        return Asked {
+            number,
+            sets: State::empty_table(),
+        };
+    }
+    let counted = count_hosts(n, hear(n, block));
+    let req = counted.req;
+    Asked {
+        number: 0,
+        sets: lcf::within(n, req),
+    }
+}
