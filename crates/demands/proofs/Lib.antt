@@ -7,6 +7,7 @@ pub mod SlotGrants
 pub mod SlotRefusal
 pub mod SlotServed
 pub mod Started
+pub mod Asked
 pub mod Resent
 pub mod LentHistory
 -- the call on tables

@@ -101,7 +101,7 @@ module _ {m n : ℕ} {block : List ℕ} (whole : Whole m n block) where
   abbrev pre : List ℕ
   pre = counted n heard ben (hostsOf m n block .pre)
 
-  requests-count : (i t : ℕ) → (asks req i t ≡ true) ↔ ((i < n) × Enabled n block i × Requests block i t)
+  pub requests-count : (i t : ℕ) → (asks req i t ≡ true) ↔ ((i < n) × Enabled n block i × Requests block i t)
   unfolding hostsOf
   requests-count = counts (λ c. c .req)
 

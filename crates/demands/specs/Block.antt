@@ -36,6 +36,13 @@ pub record Enabled (n : ℕ) (block : List ℕ) (i : ℕ) : Type 0 where
   pub heard : Heard block i
   pub voted : (h : ℕ) → h < n → Heard block h → has (says block h .fields .ben) i ≡ true
 
+-- document 02, item 1: target t is asked by host i, both below n: the host is heard and enabled, and t is in its req
+pub record Asks (n : ℕ) (block : List ℕ) (i t : ℕ) : Type 0 where
+  pub initiator : i < n
+  pub target : t < n
+  pub enabled : Enabled n block i
+  pub asked : Requests block i t
+
 -- demand 3: host i is enabled, asks for t and plans nothing, and no enabled host plans t
 pub record Waits (n : ℕ) (block : List ℕ) (i t : ℕ) : Type 0 where
   pub enabled : Enabled n block i
