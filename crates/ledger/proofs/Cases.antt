@@ -1,7 +1,7 @@
 -- A history computed, on a shelf of two ports: pair (0, 1) waits, is connected, comes anew, and is withdrawn when a slot of one
 -- port ignores it; two feeds between these are declined. And a ledger of no slots with an open pair is declined.
 use mathlib.Core.Path.{_≡_, refl}
-use mathlib.Core.List.{List, [], _∷_, map}
+use mathlib.Core.List.{List, [], _∷_}
 use Prim.Native.Nat.{ℕ}
 use Rattle.laws.specs.Steps.{steps}
 use Rattle.lcf.specs.Slot.{within}

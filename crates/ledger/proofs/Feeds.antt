@@ -5,7 +5,6 @@ use mathlib.Core.List.{List}
 use Prim.Native.Nat.{ℕ, suc, _≤_, _<_}
 use native.Mathlib.Omega.{arith}
 use lib.Dec.{eqb, ltb, leb}
-use lib.ListN.{getD}
 use borrow.Author.Tests.{ltb-false, leb-false, eqb-true, eqb-false}
 use Rattle.laws.proofs.Tests.{neither, arms}
 use Rattle.ledger.specs.Counts.{mostSlots, Room}

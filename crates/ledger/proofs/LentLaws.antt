@@ -2,22 +2,19 @@
 use mathlib.Core.Path.{_≡_, refl, sym, ap, _∙_}
 use mathlib.Core.Bool.{Bool, _&&_, _||_, cond}
 use mathlib.Core.List.{List, [], _∷_, _++_, map, append-assoc, append-nil}
-use Prim.Native.Nat.{ℕ, zero, suc, _+_, _*_, _%_, _^_, _≤_, _<_}
-use native.Mathlib.Nat.{mod-lt, mod-eq-of-lt}
+use Prim.Native.Nat.{ℕ, _+_, _*_, _%_, _^_, _≤_, _<_}
 use native.Mathlib.Numerals.{add-one}
 use native.Mathlib.Omega.{arith}
 use lib.Dec.{ltb}
-use lib.ListN.{length, getD, set, take, drop, replicate, length-append, length-take, length-drop, take-append-drop, replicate-append-replicate, length-replicate}
+use lib.ListN.{length, getD, set, take, drop, length-append, length-drop, take-append-drop}
 use lib.Seq.{getD-take, getD-drop, take-at, drop-at, drop-drop, take-suc, take-suc-set, set-split, length-take-le}
-use lib.Pow.{pow-pos}
 use borrow.Rule.Slice.PartMut.{putMid}
 use Rattle.laws.specs.Sets.{has}
 use Rattle.laws.proofs.Rows.{row-map}
 use Rattle.ledger.specs.Counts.{pairs, pair, raised, above, Room}
 use Rattle.ledger.specs.Events.{happened}
-use Rattle.ledger.specs.Ledger.{empty, figuresOf, over, next}
+use Rattle.ledger.specs.Ledger.{figuresOf, over, next}
 use Rattle.ledger.specs.Lent.{wordsLen, tableStart, ledgerOf, wordsOf}
-use Rattle.ledger.specs.declared.book.Ledger.{Ledger}
 use Rattle.ledger.specs.declared.book.Figures.{Figures}
 use Rattle.ledger.specs.declared.events.Events.{Events}
 use Rattle.ledger.proofs.CountLaws.{pair-range, length-raised}

@@ -21,7 +21,6 @@ use Rattle.laws.proofs.Members.{has-none}
 use Rattle.laws.proofs.Words.{first-digit, trailing-below}
 use Rattle.ledger.specs.Counts.{pairs, pair, above}
 use Rattle.ledger.specs.Ledger.{figuresOf, high, over}
-use Rattle.ledger.specs.Lent.{tableStart}
 use Rattle.ledger.specs.declared.book.Ledger.{Ledger}
 use Rattle.ledger.proofs.CountLaws.{pair-range}
 

@@ -1,14 +1,14 @@
 -- An empty ledger that was fed shows the figures of the feeds that were counted.
 use mathlib.Core.Path.{_≡_, refl, sym, ap, ap₂, _∙_}
 use mathlib.Core.Logic.{_⊎_}
-use mathlib.Core.Bool.{Bool, true, false, not, _&&_, _||_, cond, or-false, true≢false}
+use mathlib.Core.Bool.{Bool, true, false, not, _&&_, _||_, cond, or-false}
 use mathlib.Core.List.{List, [], _∷_}
 use Prim.Native.Nat.{ℕ, _+_, _≤_, _<_}
 use native.Mathlib.Numerals.{add-one}
 use native.Mathlib.Omega.{arith}
 use lib.Dec.{eqb, ltb, leb}
-use lib.ListN.{length, getD, replicate}
-use borrow.Author.Tests.{ltb-true, ne-eqb}
+use lib.ListN.{length, getD}
+use borrow.Author.Tests.{ltb-true, ne-eqb, le-ltb, lt-leb}
 use Rattle.laws.specs.Steps.{some}
 use Rattle.laws.specs.Sets.{asks}
 use Rattle.laws.proofs.Rows.{no-bits}
@@ -18,10 +18,10 @@ use Rattle.laws.proofs.Tests.{refuted}
 use Rattle.lcf.specs.Slot.{within}
 use Rattle.lcf.proofs.Ports.{asks-within}
 use Rattle.ledger.specs.Counts.{pairs, pair, raised, mostSlots}
-use Rattle.ledger.specs.Events.{meet, less, happened}
+use Rattle.ledger.specs.Events.{happened}
 use Rattle.ledger.specs.Ledger.{empty, figuresOf, high, over, refusal, number, next}
 use Rattle.ledger.specs.History.{Feed, Event, inside, asked, connected, waited, isAsked, isConnected, isFresh, isWithdrawn, howOften, isOpen}
-use Rattle.ledger.specs.Shows.{fed, counted, told, Shows}
+use Rattle.ledger.specs.Shows.{fedWith, fed, counted, told, Shows}
 use Rattle.ledger.specs.declared.book.Ledger.{Ledger}
 use Rattle.ledger.specs.declared.book.Figures.{Figures}
 use Rattle.ledger.proofs.EventLaws.{asks-meet, asks-less}
@@ -31,7 +31,7 @@ use Rattle.ledger.proofs.Balance.{fresh-waited, balance, open-or-not, o
 use Rattle.ledger.proofs.Feeds.{feed-cases}
 
 -- zero at every pair of an empty ledger
-no-feed : (m : ℕ) → Shows m [] (empty m)
+pub no-feed : (m : ℕ) → Shows m [] (empty m)
 unfolding empty figuresOf howOften waited
 no-feed m = record { slots = refl; figures = λ i t h g. rw (no-bits (pairs m) (pair m i t), asks-empty m i t) }
 
@@ -99,32 +99,48 @@ shows m (f ∷ feeds) =
     (λ z. next-shows m f (counted m feeds) (fed m feeds) s)
     (λ ne. rw (ne-eqb _ 0 ne) s)
 
--- ---- so each pair of the ledger balances
+-- ---- what a ledger that shows a history is worth
 
-module _ (m : ℕ) (feeds : List Feed) where
+module _ (m : ℕ) (h : List Feed) (l : Ledger) (s : Shows m h l) where
   abbrev figures : ℕ → ℕ → Figures
-  figures = figuresOf m (fed m feeds)
+  figures = figuresOf m l
 
   module _ (i t : ℕ) (i< : i < m) (t< : t < m) where
-    pub ledger-balance : figures i t .fresh ≡ figures i t .connected + figures i t .withdrawn + figures i t .isopen
-    ledger-balance = rw (shows m feeds .figures i t i< t<) (balance i t (counted m feeds))
+    pub shown-balance : figures i t .fresh ≡ figures i t .connected + figures i t .withdrawn + figures i t .isopen
+    shown-balance = rw (s .figures i t i< t<) (balance i t h)
 
-    pub ledger-open : (figures i t .isopen ≡ 0) ⊎ (figures i t .isopen ≡ 1)
-    ledger-open = rw (shows m feeds .figures i t i< t<) (open-or-not i t (counted m feeds))
+    pub shown-open : (figures i t .isopen ≡ 0) ⊎ (figures i t .isopen ≡ 1)
+    shown-open = rw (s .figures i t i< t<) (open-or-not i t h)
 
   -- no figure is above the slots counted
-  never-over : over m (fed m feeds) ≡ false
+  never-over : over m l ≡ false
   unfolding over high
   never-over = refuted _ (λ e.
-      let (i, i<, f) = some-true (λ i. some (λ t. high (fed m feeds .slots) (figures i t)) m) m e in
-      let (t, t<, p) = some-true (λ t. high (fed m feeds .slots) (figures i t)) m f in
-      let h = counted m feeds in
-      let s = shows m feeds in
-      let no : (x : ℕ) → x ≤ length h → ltb (fed m feeds .slots) x ≡ true → ⊥ = λ x l q. omega (arith, ltb-true (fed m feeds .slots) x q, s .slots) in
-      any-of _ _ _ _ _ (no (howOften (isAsked i t) h) (often-below (isAsked i t) h)) (no (howOften (isConnected i t) h) (often-below (isConnected i t) h)) (no (howOften (isFresh i t) h) (often-below (isFresh i t) h))
-      (no (howOften (isWithdrawn i t) h) (often-below (isWithdrawn i t) h)) (no (isOpen i t h) (open-below i t h)) (rw (s .figures i t i< t<) at p))
+      let (i, i<, f) = some-true (λ i. some (λ t. high (l .slots) (figures i t)) m) m e in
+      let (t, t<, p) = some-true (λ t. high (l .slots) (figures i t)) m f in
+      let no : (x : ℕ) → x ≤ length h → ltb (l .slots) x ≡ true → ⊥ = λ x b q. omega (arith, ltb-true (l .slots) x q, s .slots) in
+      any-of _ _ _ _ _ (no (howOften (isAsked i t) h) (often-below (isAsked i t) h)) (no (howOften (isConnected i t) h) (often-below (isConnected i t) h))
+      (no (howOften (isFresh i t) h) (often-below (isFresh i t) h)) (no (howOften (isWithdrawn i t) h) (often-below (isWithdrawn i t) h))
+      (no (isOpen i t h) (open-below i t h)) (rw (s .figures i t i< t<) at p))
 
   -- so 13 comes only when all slots are counted
-  pub feed-number : (n : ℕ) → number m (fed m feeds) n ≡ cond (ltb n 1 || ltb m n) 1 (cond (leb mostSlots (length (counted m feeds))) 13 0)
+  pub shown-number : (n : ℕ) → number m l n ≡ cond (ltb n 1 || ltb m n) 1 (cond (leb mostSlots (length h)) 13 0)
   unfolding number refusal
-  feed-number n = rw (never-over, shows m feeds .slots, or-false)
+  shown-number n = rw (never-over, s .slots, or-false)
+
+  -- and until then a feed of 1 to m ports is counted
+  pub feed-shows : (f : Feed) → 1 ≤ f .ports → f .ports ≤ m → length h < mostSlots → Shows m (f ∷ h) (fedWith m l f .ledger)
+  feed-shows f some most few = feed-cases m l (f .ports) (f .asked) (f .connected) (λ r. Shows m (f ∷ h) (r .ledger)) (λ z. next-shows m f h l s)
+      (λ ne. absurd (ne (shown-number (f .ports) ∙ rw (le-ltb (f .ports) 1 some, le-ltb m (f .ports) most, lt-leb mostSlots (length h) few))))
+
+-- ---- so for every history of feeds, from the empty ledger
+
+module _ (m : ℕ) (feeds : List Feed) where
+  pub ledger-balance : (i t : ℕ) → i < m → t < m → let f = figuresOf m (fed m feeds) i t in f .fresh ≡ f .connected + f .withdrawn + f .isopen
+  ledger-balance = shown-balance m _ _ (shows m feeds)
+
+  pub ledger-open : (i t : ℕ) → i < m → t < m → let f = figuresOf m (fed m feeds) i t in (f .isopen ≡ 0) ⊎ (f .isopen ≡ 1)
+  ledger-open = shown-open m _ _ (shows m feeds)
+
+  pub feed-number : (n : ℕ) → number m (fed m feeds) n ≡ cond (ltb n 1 || ltb m n) 1 (cond (leb mostSlots (length (counted m feeds))) 13 0)
+  feed-number = shown-number m _ _ (shows m feeds)

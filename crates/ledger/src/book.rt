@@ -108,12 +108,7 @@ fn raise_table(counts: &mut [u32; Ledger::PAIRS], rows: Table)
 }
 
 // With one slot more.
-fn next(
-    ledger: Ledger,
-    n: usize,
-    asked: Table,
-    connected: Table,
-) -> Ledger
+fn next(ledger: Ledger, n: usize, asked: Table, connected: Table) -> Ledger
     requires { ⌜ number mostPorts ledger n ≡ 0 ⌝ }
     ensures { λ r. ⌜ r ≡ next mostPorts ledger n asked connected ⌝ }
 {
@@ -135,12 +130,7 @@ fn next(
 }
 
 // A served slot of n ports is counted, with the sets asked and the sets connected.
-pub fn feed(
-    ledger: Ledger,
-    n: usize,
-    asked: Table,
-    connected: Table,
-) -> Fed
+pub fn feed(ledger: Ledger, n: usize, asked: Table, connected: Table) -> Fed
     ensures { λ r. ⌜ r ≡ feed mostPorts ledger n asked connected ⌝ }
 {
     let number = refusal(n, ledger.slots, over(ledger));

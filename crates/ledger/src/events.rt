@@ -64,12 +64,7 @@ pub(crate) fn any(rows: Table) -> bool
     found
 }
 
-pub(crate) fn happened(
-    n: usize,
-    waited: Table,
-    asked: Table,
-    connected: Table,
-) -> Events
+pub(crate) fn happened(n: usize, waited: Table, asked: Table, connected: Table) -> Events
     ensures { λ r. ⌜ r ≡ happened mostPorts n waited asked connected ⌝ }
 {
     let asks = lcf::within(n, asked);

@@ -99,12 +99,7 @@ fn count(words: &mut [u32], n: usize, asked: Table, connected: Table)
 }
 
 // The feed on lent words.
-pub fn feed_lent(
-    words: &mut [u32],
-    n: usize,
-    asked: Table,
-    connected: Table,
-) -> u8
+pub fn feed_lent(words: &mut [u32], n: usize, asked: Table, connected: Table) -> u8
     ensures { λ r. ⌜ (r ≡ lentNumber mostPorts (now (words .entry)) n) × (now (words .exit) ≡ lentFeed mostPorts (now (words .entry)) n asked connected) ⌝ }
 {
     if words.len() != WORDS {

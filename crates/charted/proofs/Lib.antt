@@ -1,0 +1,3 @@
+pub mod Waiting
+pub mod Resent
+pub mod Calls

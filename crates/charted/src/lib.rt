@@ -1,0 +1,1 @@
+// What the ledger tells of a history of slot calls, as theorems, in specs/ and proofs/. No code.
