@@ -1,4 +1,5 @@
 pub mod Trips
+pub mod Ledgers
 pub mod Parts
 pub mod Slots
 pub mod Unique

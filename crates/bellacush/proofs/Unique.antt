@@ -9,6 +9,9 @@ use Rattle.bellacush.proofs.frame_calls.bellacush_read_config.Reads as 
 use Rattle.bellacush.proofs.frame_calls.bellacush_read_grant.Reads as read-grant
 use Rattle.bellacush.proofs.frame_calls.bellacush_write_config.Reads as write-config
 use Rattle.bellacush.proofs.frame_calls.bellacush_write_grant.Reads as write-grant
+use Rattle.bellacush.proofs.ledger_calls.bellacush_asked.Reads as asked
+use Rattle.bellacush.proofs.ledger_calls.bellacush_feed.Reads as feed
+use Rattle.bellacush.proofs.ledger_calls.bellacush_figures.Reads as figures
 
 pub slot-once : (κs a : _) (r s : ℕ) (x y : _) → slot.Learnt κs a r x → slot.Learnt κs a s y
     → (r ≡ s) × (now (x .0) ≡ now (y .0)) × (now (x .1 .1 .1 .1 .1 .1 .0) ≡ now (y .1 .1 .1 .1 .1 .1 .0)) × (now (x .1 .1 .1 .1 .1 .0) ≡ now (y .1 .1 .1 .1 .1 .0))
@@ -25,3 +28,12 @@ write-config-once κs a r s x y p q = (the-result (p .0) (q .0), the-result (p .
 
 pub write-grant-once : (κs a : _) (r s : ℕ) (x y : _) → write-grant.Learnt κs a r x → write-grant.Learnt κs a s y → (r ≡ s) × (now (x .1 .1 .1 .1 .1 .0) ≡ now (y .1 .1 .1 .1 .1 .0))
 write-grant-once κs a r s x y p q = (the-result (p .0) (q .0), the-result (p .1) (q .1))
+
+pub asked-once : (κs a : _) (r s : ℕ) (x y : _) → asked.Learnt κs a r x → asked.Learnt κs a s y → (r ≡ s) × (now (x .1 .1 .0) ≡ now (y .1 .1 .0))
+asked-once κs a r s x y p q = (the-result (p .0) (q .0), the-result (p .1) (q .1))
+
+pub feed-once : (κs a : _) (r s : ℕ) (x y : _) → feed.Learnt κs a r x → feed.Learnt κs a s y → (r ≡ s) × (now (x .0) ≡ now (y .0))
+feed-once κs a r s x y p q = (the-result (p .0) (q .0), the-result (p .1) (q .1))
+
+pub figures-once : (κs a : _) (r s : ℕ) (x y : _) → figures.Learnt κs a r x → figures.Learnt κs a s y → (r ≡ s) × (now (x .1 .1 .1 .0) ≡ now (y .1 .1 .1 .0))
+figures-once κs a r s x y p q = (the-result (p .0) (q .0), the-result (p .1) (q .1))

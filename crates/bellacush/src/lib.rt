@@ -1,5 +1,6 @@
 // The C form: what firmware and the backend link.
 mod frame_calls;
+mod ledger_calls;
 mod slot_call;
 mod state_bytes;
 mod table_bytes;
@@ -8,4 +9,7 @@ pub use frame_calls::bellacush_read_config;
 pub use frame_calls::bellacush_read_grant;
 pub use frame_calls::bellacush_write_config;
 pub use frame_calls::bellacush_write_grant;
+pub use ledger_calls::bellacush_asked;
+pub use ledger_calls::bellacush_feed;
+pub use ledger_calls::bellacush_figures;
 pub use slot_call::bellacush_slot;

@@ -5,6 +5,7 @@ ghost use mathlib.Core.List.{_++_};
 ghost use lib.ListN.{length, drop};
 ghost use Rattle.frames.specs.Part.{mostPorts};
 ghost use Rattle.laws.specs.Bytes.{bigEndian, row};
+ghost use Rattle.bellacush.specs.Ledger.{tableOf};
 use lcf::Set;
 use lcf::State;
 use lcf::Table;
@@ -18,6 +19,18 @@ fn put_set(set: Set, out: &mut [u8])
     let bytes = words::two_bytes(set);
     out[0] = bytes[0];
     out[1] = bytes[1];
+}
+
+pub(crate) fn table_of(bytes: &[u8]) -> Table
+    requires { ⌜ length (now bytes) ≡ mostPorts * 2 ⌝ }
+    ensures { λ r. ⌜ r ≡ tableOf mostPorts (now (bytes .entry)) ⌝ }
+{
+    let mut table = State::empty_table();
+    for i in 0..State::MOST {
+        let at = i * 2;
+        table[i] = words::of_two(bytes[at], bytes[at + 1]);
+    }
+    table
 }
 
 pub(crate) fn put_table(sets: Table, table: &mut [u8])
