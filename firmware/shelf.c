@@ -1,7 +1,8 @@
 /*
  * Plays a shelf over libbellacush: hosts with random traffic, whose every block of frames comes
  * twice, the second time by the standby link. First as built, where the copy is refused; then the
- * faulty way, where the card takes each copy for a new slot. Prints what both did.
+ * faulty way, where the card takes each copy for a new slot. Prints what both did, and what the
+ * operators' charts make of it: the old one drew slots asked, the ledger counts a request once.
  */
 #include <stdio.h>
 #include <stdlib.h>
@@ -10,8 +11,9 @@
 #include "bellacush.h"
 
 #define MOST BELLACUSH_MOST_PORTS
-#define SLOTS_SHOWN 3
 #define POPULAR_TARGET 0u
+#define SCREEN 80 /* columns */
+#define NAME 12   /* the column of names left of a grid */
 
 static const char usage[] =
     "usage: shelf [ports=4] [load=90] [mode=central] [slots=160] [seed=1]\n"
@@ -31,8 +33,14 @@ struct shelf {
     const struct settings *set;
     uint8_t state[BELLACUSH_STATE_LEN];
     uint32_t random;
-    grid waiting, asked, turns, connected;
-    unsigned long served, refused, connections;
+    uint32_t ledger[BELLACUSH_LEDGER_LEN];
+    grid waiting, turns, sent;
+    unsigned long served, refused;
+};
+
+/* Of some pairs: the ledger's figures and the cells sent. */
+struct sums {
+    unsigned long figures[BELLACUSH_FIGURES_LEN], sent;
 };
 
 /* One block of frames with what the card needs to serve it. */
@@ -134,17 +142,15 @@ static void expect(const char *call, uint32_t answer, uint32_t wanted)
 }
 
 /* Each host frames the targets that it has cells for; it plans nothing and disables nobody. */
-static void send_frames(struct shelf *shelf, struct slot *slot)
+static void send_frames(const struct shelf *shelf, struct slot *slot)
 {
     unsigned i, t;
 
     for (i = 0; i < shelf->set->ports; i++) {
         uint16_t req = 0;
         for (t = 0; t < shelf->set->ports; t++)
-            if (shelf->waiting[i][t] > 0) {
+            if (shelf->waiting[i][t] > 0)
                 req = (uint16_t)(req | 1u << t);
-                shelf->asked[i][t]++;
-            }
         expect("bellacush_write_config",
                bellacush_write_config(req, 0, 0xFFFF, 0xFFFF, slot->block + BELLACUSH_BLOCK_LEN(i),
                                       BELLACUSH_CONFIG_LEN),
@@ -166,6 +172,22 @@ static uint32_t call_slot(struct shelf *shelf, struct slot *slot, uint32_t numbe
                           slot->table, sizeof slot->table);
 }
 
+/* A slot was served: the ledger counts it, and the collectors with it. */
+static void count_slot(struct shelf *shelf, const struct slot *slot)
+{
+    uint32_t n = (uint32_t)shelf->set->ports;
+    uint8_t asked[BELLACUSH_TABLE_LEN];
+
+    shelf->served++;
+    expect("bellacush_asked",
+           bellacush_asked(n, slot->block, BELLACUSH_BLOCK_LEN(n), asked, sizeof asked),
+           BELLACUSH_DONE);
+    expect("bellacush_feed",
+           bellacush_feed(shelf->ledger, BELLACUSH_LEDGER_LEN, n, asked, sizeof asked, slot->table,
+                          sizeof slot->table),
+           BELLACUSH_DONE);
+}
+
 /* Each host reads its grant and sends one cell to the target that it was given. */
 static void send_cells(struct shelf *shelf, const struct slot *slot)
 {
@@ -183,8 +205,7 @@ static void send_cells(struct shelf *shelf, const struct slot *slot)
         if (!(part[1] & BELLACUSH_GNT_VAL))
             continue;
         shelf->waiting[i][target]--;
-        shelf->connected[i][target]++;
-        shelf->connections++;
+        shelf->sent[i][target]++;
     }
 }
 
@@ -197,14 +218,14 @@ static void play_slot(struct shelf *shelf, struct slot *slot, int copies_are_new
     send_frames(shelf, slot);
     shelf->turns[shelf->state[1]][shelf->state[2]]++;
     expect("bellacush_slot", BELLACUSH_NUMBER(call_slot(shelf, slot, number)), BELLACUSH_DONE);
-    shelf->served++;
+    count_slot(shelf, slot);
     send_cells(shelf, slot);
     if (copies_are_new) {
         /* the hosts are sending already: what this answers can no longer be used */
         struct slot copy = *slot;
         expect("bellacush_slot", BELLACUSH_NUMBER(call_slot(shelf, &copy, number + 1)),
                BELLACUSH_DONE);
-        shelf->served++;
+        count_slot(shelf, &copy);
     } else {
         expect("bellacush_slot", call_slot(shelf, slot, number), BELLACUSH_SLOT_STALE);
         shelf->refused++;
@@ -213,12 +234,11 @@ static void play_slot(struct shelf *shelf, struct slot *slot, int copies_are_new
 
 /* Printing */
 
-/* The slot's number, then each initiator with the targets that it holds. */
-static void print_table(unsigned long number, unsigned long ports, const uint8_t *table)
+/* Each initiator with the targets that it holds. */
+static void print_table(unsigned long ports, const uint8_t *table)
 {
     unsigned i, t;
 
-    printf("%lu", number);
     for (i = 0; i < ports; i++) {
         unsigned held = table[2 * i] * 256u + table[2 * i + 1];
         char before = ':';
@@ -234,54 +254,125 @@ static void print_table(unsigned long number, unsigned long ports, const uint8_t
     printf("\n");
 }
 
-static void print_row(const char *name, unsigned host, const unsigned long *row,
-                      unsigned long ports)
+/* How wide a column is: the names of targets and the greatest count fit into it. */
+static int column_width(const struct shelf *shelf)
 {
-    unsigned t;
+    unsigned long most = 999;
+    char digits[32];
+    unsigned i, t;
 
-    printf("%s %2u", name, host);
-    for (t = 0; t < ports; t++)
-        printf(" %4lu", row[t]);
+    for (i = 0; i < shelf->set->ports; i++)
+        for (t = 0; t < shelf->set->ports; t++) {
+            most = shelf->turns[i][t] > most ? shelf->turns[i][t] : most;
+            most = shelf->sent[i][t] > most ? shelf->sent[i][t] : most;
+        }
+    return sprintf(digits, " %lu", most);
 }
 
-static void print_heading(const char *name, unsigned long ports)
+static void print_heading(const char *name, unsigned long ports, int width)
 {
     char target[8];
     unsigned t;
 
-    printf("%s", name);
+    printf("%-*s", NAME, name);
     for (t = 0; t < ports; t++) {
         sprintf(target, "t%u", t);
-        printf(" %4s", target);
+        printf("%*s", width, target);
     }
 }
 
-/* Side by side: how often each pair was the favoured one, and how often it was connected. */
-static void print_grids(const struct shelf *shelf)
+static void print_row(unsigned host, const unsigned long *row, unsigned long ports, int width)
 {
-    unsigned long n = shelf->set->ports;
+    unsigned t;
+
+    printf("  host %-*u", NAME - 7, host);
+    for (t = 0; t < ports; t++)
+        printf("%*lu", width, row[t]);
+}
+
+static void print_grid(const char *name, const unsigned long (*rows)[MOST], unsigned long ports,
+                       int width)
+{
     unsigned i;
 
-    print_heading("  favoured", n);
-    print_heading("    connections", n);
-    for (i = 0; i < n; i++) {
-        print_row("\n  host ", i, shelf->turns[i], n);
-        print_row("        host", i, shelf->connected[i], n);
+    print_heading(name, ports, width);
+    for (i = 0; i < ports; i++) {
+        printf("\n");
+        print_row(i, rows[i], ports, width);
     }
     printf("\n");
 }
 
-static void print_summary(const struct shelf *shelf)
+static void print_side_by_side(const struct shelf *shelf, int width)
 {
-    unsigned long waiting = 0;
+    unsigned long n = shelf->set->ports;
+    unsigned i;
+
+    print_heading("  favoured", n, width);
+    print_heading("  cells sent", n, width);
+    for (i = 0; i < n; i++) {
+        printf("\n");
+        print_row(i, shelf->turns[i], n, width);
+        print_row(i, shelf->sent[i], n, width);
+    }
+    printf("\n");
+}
+
+/* How often each pair was the favoured one, and how many cells it sent. */
+static void print_grids(const struct shelf *shelf)
+{
+    unsigned long n = shelf->set->ports;
+    int width = column_width(shelf);
+
+    if (2 * (NAME + n * (unsigned)width) <= SCREEN) {
+        print_side_by_side(shelf, width);
+    } else {
+        print_grid("  favoured", shelf->turns, n, width);
+        print_grid("  cells sent", shelf->sent, n, width);
+    }
+}
+
+/* What the ledger has of a pair and the cells that it sent, added to the sums so far. */
+static void add_figures(const struct shelf *shelf, unsigned i, unsigned t, struct sums *sums)
+{
+    uint32_t figures[BELLACUSH_FIGURES_LEN];
+    unsigned k;
+
+    expect("bellacush_figures",
+           bellacush_figures(shelf->ledger, BELLACUSH_LEDGER_LEN, i, t, figures,
+                             BELLACUSH_FIGURES_LEN),
+           BELLACUSH_DONE);
+    for (k = 0; k < BELLACUSH_FIGURES_LEN; k++)
+        sums->figures[k] += figures[k];
+    sums->sent += shelf->sent[i][t];
+}
+
+static void print_sums(const struct sums *sums)
+{
+    const unsigned long *f = sums->figures;
+
+    printf("%12lu%15lu%12lu%12lu%7lu%8lu\n", f[BELLACUSH_ASKED], f[BELLACUSH_FRESH],
+           f[BELLACUSH_CONNECTED], f[BELLACUSH_WITHDRAWN], f[BELLACUSH_OPEN], sums->sent);
+}
+
+/* What the old chart drew beside what the ledger draws, and the cells that were sent. */
+static void print_charts(const struct shelf *shelf)
+{
+    unsigned busy = busy_host(shelf->set);
+    struct sums all, crowded;
     unsigned i, t;
 
+    memset(&all, 0, sizeof all);
+    memset(&crowded, 0, sizeof crowded);
     for (i = 0; i < shelf->set->ports; i++)
         for (t = 0; t < shelf->set->ports; t++)
-            waiting += shelf->waiting[i][t] > 0;
-    printf("  %lu slots served, %lu copies refused, %lu connections, %lu requests waiting\n",
-           shelf->served, shelf->refused, shelf->connections, waiting);
-    print_grids(shelf);
+            add_figures(shelf, i, t, &all);
+    add_figures(shelf, busy, POPULAR_TARGET, &crowded);
+    printf("  charts        old: asked  ledger: fresh = connected + withdrawn + open    sent\n");
+    printf("  all pairs   ");
+    print_sums(&all);
+    printf("  host %u to t%u", busy, POPULAR_TARGET);
+    print_sums(&crowded);
 }
 
 static unsigned long pairs_without(const struct shelf *shelf, const unsigned long (*counts)[MOST])
@@ -298,14 +389,9 @@ static unsigned long pairs_without(const struct shelf *shelf, const unsigned lon
 static void print_moral(const struct shelf *built, const struct shelf *faulty)
 {
     unsigned long pairs = built->set->ports * built->set->ports;
-    unsigned host = busy_host(built->set);
 
     printf("Pairs that were never favoured: %lu of %lu as built, %lu of %lu the faulty way.\n",
            pairs_without(built, built->turns), pairs, pairs_without(faulty, faulty->turns), pairs);
-    printf("Host %u asked for target %u and got it: %lu of %lu times, %lu of %lu the faulty way.\n",
-           host, POPULAR_TARGET, built->connected[host][POPULAR_TARGET],
-           built->asked[host][POPULAR_TARGET], faulty->connected[host][POPULAR_TARGET],
-           faulty->asked[host][POPULAR_TARGET]);
 }
 
 /* Playing */
@@ -322,8 +408,8 @@ static void play(struct shelf *shelf, const struct settings *set, int copies_are
     shelf->random = (uint32_t)set->seed * 2654435769u | 1u; /* the generator would stay at 0 */
     for (k = 0; k < set->slots; k++) {
         play_slot(shelf, &slot, copies_are_new);
-        if (!copies_are_new && k < SLOTS_SHOWN)
-            print_table(k, set->ports, slot.table);
+        if (!copies_are_new && k == 0)
+            print_table(set->ports, slot.table);
     }
 }
 
@@ -335,9 +421,8 @@ static void print_shelf(const struct settings *set)
     else
         printf("distributed with %lu rounds at most", set->mode);
     printf(", %lu slots, seed %lu.\n", set->slots, set->seed);
-    printf("Host %u sends to all targets, the others to target %u. Pairs are favoured in turn.\n",
+    printf("Host %u sends to all targets, the others to target %u; every block comes twice.\nSlot 0:",
            busy_host(set), POPULAR_TARGET);
-    printf("Every block comes twice, the second time by the standby link. The first slots:\n");
 }
 
 int main(int argc, char **argv)
@@ -357,12 +442,15 @@ int main(int argc, char **argv)
         set.slots = 10 * set.ports * set.ports;
     print_shelf(&set);
     play(&built, &set, 0);
-    printf("\nAs built: the copy is refused with number %d and changes nothing.\n",
-           BELLACUSH_SLOT_STALE);
-    print_summary(&built);
+    printf("\nAs built: %lu slots served, %lu copies refused with number %d.\n", built.served,
+           built.refused, BELLACUSH_SLOT_STALE);
+    print_grids(&built);
+    print_charts(&built);
     play(&faulty, &set, 1);
-    printf("\nThe faulty way: the copy is taken for a new slot, too late to be of use.\n");
-    print_summary(&faulty);
+    printf("\nThe faulty way: %lu slots served, half of them copies, too late to be of use.\n",
+           faulty.served);
+    print_grids(&faulty);
+    print_charts(&faulty);
     print_moral(&built, &faulty);
     return 0;
 }

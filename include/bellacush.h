@@ -2,18 +2,20 @@
  * Bellacush: the bulk-channel scheduler of a crossbar shelf, for C and C++.
  *
  * One call serves one slot: it takes the block of configuration frames that the hosts sent,
- * joins initiators to targets without conflict, and writes a grant frame for each host.
+ * joins initiators to targets without conflict, and writes a grant frame for each host. A
+ * ledger counts what was asked and what came of it, each waiting request once.
  * The library holds nothing of its own, allocates nothing and always returns; everything that
  * it reads or changes is lent by the caller for the time of the call.
  *
  * What the caller must see to, for every call:
- *  - A pointer shows as many bytes as the length beside it says. A null pointer is not to be
- *    lent with a length other than 0.
- *  - Nothing that a call may write (state, out, table, part) overlaps anything else that is
- *    lent to the same call.
+ *  - A pointer shows as many bytes as the length beside it says; where it points to uint32_t,
+ *    as many words, aligned as the type asks. A null pointer is not to be lent with a length
+ *    other than 0.
+ *  - Nothing that a call may write (state, out, table, part, ledger of a feed, figures)
+ *    overlaps anything else that is lent to the same call.
  *  - No other thread touches what is lent before the call returns. Calls on separate memory
  *    may run at the same time.
- * Nothing else is asked: any lengths, bytes and numbers are answered as said below.
+ * Nothing else is asked: any lengths, bytes, words and numbers are answered as said below.
  */
 #ifndef BELLACUSH_H
 #define BELLACUSH_H
@@ -38,6 +40,10 @@ extern "C" {
 #define BELLACUSH_BLOCK_LEN(n) ((size_t)BELLACUSH_CONFIG_LEN * (n)) /* one slot of n hosts */
 #define BELLACUSH_OUT_LEN(n) ((size_t)BELLACUSH_GRANT_LEN * (n))    /* the grants of one slot */
 
+/* Lengths in words of 32 bits. */
+#define BELLACUSH_LEDGER_LEN 1041 /* the slots counted, four tables of counts, the sets that wait */
+#define BELLACUSH_FIGURES_LEN 5   /* the figures of one pair */
+
 /* Modes: central, or the distributed form with a limit of 1 to 16 rounds. */
 #define BELLACUSH_CENTRAL 0
 #define BELLACUSH_MOST_ROUNDS 16
@@ -46,6 +52,13 @@ extern "C" {
 #define BELLACUSH_GNT_VAL 1
 #define BELLACUSH_LINK_ERR 2
 #define BELLACUSH_CRC_ERR 4
+
+/* The places of a pair's five figures. */
+#define BELLACUSH_ASKED 0     /* slots in which the target was asked for */
+#define BELLACUSH_CONNECTED 1 /* those of them in which it was connected */
+#define BELLACUSH_FRESH 2     /* fresh requests: each counts once, however long it waits */
+#define BELLACUSH_WITHDRAWN 3 /* requests that waited and were then no longer asked */
+#define BELLACUSH_OPEN 4      /* 1 if a request waited in the last counted slot, otherwise 0 */
 
 /* The numbers that calls return: 0, or why a call declined. */
 enum bellacush_number {
@@ -57,12 +70,16 @@ enum bellacush_number {
     BELLACUSH_BAD_LIMIT = 5,        /* distributed round limit outside 1 to 16 */
     BELLACUSH_BAD_BLOCK_LEN = 6,    /* block length other than 11 n */
     BELLACUSH_OUT_TOO_SHORT = 7,    /* output below 5 n for a slot, 11 or 5 for one frame */
-    BELLACUSH_BAD_LEN = 8,          /* a state, table, frame or part of another length */
+    BELLACUSH_BAD_LEN = 8,          /* a state, table, frame, part, ledger or figures of another
+                                       length */
     BELLACUSH_BAD_TYPE = 9,         /* frame type other than asked for */
     BELLACUSH_BAD_CHECK = 10,       /* the frame's check differs */
     BELLACUSH_BAD_GRANT_FIELD = 11, /* bits 3 to 7 of the flags set, gnt nonzero without gntVal,
-                                       or, in writing, nodeId or gnt above 15 */
-    BELLACUSH_NOBODY_JOINED = 12    /* a distributed round with a live request joined nobody */
+                                       or, in writing, nodeId or gnt above 15; for figures,
+                                       initiator or target above 15 */
+    BELLACUSH_NOBODY_JOINED = 12,   /* a distributed round with a live request joined nobody */
+    BELLACUSH_BAD_LEDGER = 13       /* 4294967295 slots are counted already, or a figure of the
+                                       ledger is above its slots counted */
 };
 
 /* What bellacush_slot returns, taken apart: the number, and the rounds that were run. */
@@ -101,6 +118,83 @@ enum bellacush_number {
 uint32_t bellacush_slot(uint8_t *state, size_t state_len, uint32_t slot, uint32_t mode,
                         const uint8_t *block, size_t block_len, uint16_t link,
                         uint8_t *out, size_t out_len, uint8_t *table, size_t table_len);
+
+/*
+ * The ledger of a shelf: what each pair asked for and what came of it, over the slots counted.
+ *
+ * A host raises a waiting request again in every slot, so the slots asked are no demand. The
+ * ledger counts it once: a request is fresh if it is asked now and, in the previous counted
+ * slot, was either not asked or else connected; in the first slot every one asked is fresh. It
+ * is withdrawn if it waited in the previous counted slot and is not asked now, and open if it
+ * was asked and not connected in the last one. So, for each pair, fresh requests = slots
+ * connected + withdrawals + open, and no figure is above the slots counted.
+ *
+ * Its words are lent, in the machine's own byte order:
+ *
+ *      word 0                the slots counted
+ *      word    1 + 16 i + t  slots in which initiator i asked for target t
+ *      word  257 + 16 i + t  slots in which it was connected while it asked
+ *      word  513 + 16 i + t  fresh requests
+ *      word  769 + 16 i + t  withdrawals
+ *      word 1025 + i         the targets that initiator i waits for, bit t for target t; bits
+ *                            from 16 on are ignored
+ *
+ * A fresh ledger is all zeros: memset makes one. It can be kept in a file and read back on
+ * machines of the same byte order.
+ *
+ * Feed it after each slot that was served, and only then: with the sets asked of the block that
+ * was served, and the table that the slot call wrote. A block that comes twice is served once
+ * and its copy refused, so the copy is not fed and changes no figure.
+ *
+ *      if (BELLACUSH_NUMBER(bellacush_slot(..., block, ..., table, ...)) == BELLACUSH_DONE) {
+ *          bellacush_asked(n, block, block_len, asked, BELLACUSH_TABLE_LEN);
+ *          bellacush_feed(ledger, BELLACUSH_LEDGER_LEN, n, asked, BELLACUSH_TABLE_LEN,
+ *                         table, BELLACUSH_TABLE_LEN);
+ *      }
+ */
+
+/*
+ * Writes the sets asked of a block of n hosts to table: 32 bytes, laid out as bellacush_slot
+ * writes the sets connected. Initiator i asks for target t if its host is heard and enabled,
+ * bit t of its req is set, and i and t are below n; whether it also plans makes no difference.
+ *
+ * Returns BELLACUSH_DONE. Otherwise table keeps every byte. Tested in order: 8 (table other
+ * than 32 bytes), 1, 6. For the n and block of a served slot it never declines.
+ */
+uint32_t bellacush_asked(uint32_t n, const uint8_t *block, size_t block_len,
+                         uint8_t *table, size_t table_len);
+
+/*
+ * Counts a served slot.
+ *
+ * ledger     1041 words, laid out as above: gets the slot counted.
+ * n          the ports of the slot; it may differ from that of the slots before.
+ * asked      32 bytes, as bellacush_asked writes them.
+ * connected  32 bytes, as bellacush_slot writes them. What is connected and not asked, such as
+ *            a planned target that is not in req, counts as nothing.
+ *
+ * Sets and bits at or above n are ignored: a pair there counts as not asked, and if it waited
+ * it is withdrawn.
+ *
+ * Returns BELLACUSH_DONE. Otherwise ledger keeps every word. Tested in order: 8 (ledger other
+ * than 1041 words, asked or connected other than 32 bytes), 1, 13. A ledger that was zeros and
+ * was changed by this call alone meets 13 only once 4294967295 slots are counted.
+ */
+uint32_t bellacush_feed(uint32_t *ledger, size_t ledger_len, uint32_t n,
+                        const uint8_t *asked, size_t asked_len,
+                        const uint8_t *connected, size_t connected_len);
+
+/*
+ * Shows the five figures of the pair of an initiator and a target, both below 16 whatever the
+ * ports: writes them to figures, 5 words, in the order of BELLACUSH_ASKED to BELLACUSH_OPEN.
+ *
+ * Returns BELLACUSH_DONE. Otherwise figures keeps every word. Tested in order: 8 (ledger other
+ * than 1041 words, figures other than 5), 11. The ledger is shown as it is; whether its figures
+ * can be right is tested when it is fed.
+ */
+uint32_t bellacush_figures(const uint32_t *ledger, size_t ledger_len,
+                           uint32_t initiator, uint32_t target,
+                           uint32_t *figures, size_t figures_len);
 
 /*
  * Reads a configuration frame: copies the 8 bytes between type and check (req, pre, ben, qen,
