@@ -59,7 +59,7 @@ static int same(const struct lent *a, const struct lent *b)
     return memcmp(a, b, sizeof *a) == 0;
 }
 
-static void constants_are_document_01s(void)
+static void constants_are_the_documents(void)
 {
     CHECK(BELLACUSH_MOST_PORTS == 16);
     CHECK(BELLACUSH_STATE_LEN == 7 && BELLACUSH_TABLE_LEN == 32);
@@ -71,6 +71,10 @@ static void constants_are_document_01s(void)
     CHECK(BELLACUSH_BAD_BLOCK_LEN == 6 && BELLACUSH_OUT_TOO_SHORT == 7 && BELLACUSH_BAD_LEN == 8);
     CHECK(BELLACUSH_BAD_TYPE == 9 && BELLACUSH_BAD_CHECK == 10);
     CHECK(BELLACUSH_BAD_GRANT_FIELD == 11 && BELLACUSH_NOBODY_JOINED == 12);
+    CHECK(BELLACUSH_BAD_LEDGER == 13);
+    CHECK(BELLACUSH_LEDGER_LEN == 1 + 4 * 256 + 16 && BELLACUSH_FIGURES_LEN == 5);
+    CHECK(BELLACUSH_ASKED == 0 && BELLACUSH_CONNECTED == 1 && BELLACUSH_FRESH == 2);
+    CHECK(BELLACUSH_WITHDRAWN == 3 && BELLACUSH_OPEN == 4);
     CHECK(BELLACUSH_NUMBER(2 * 256 + 12) == 12 && BELLACUSH_ROUNDS(2 * 256 + 12) == 2);
 }
 
@@ -202,9 +206,127 @@ static void grant_frames(void)
     CHECK(part[0] == 0xC5 && part[1] == (BELLACUSH_GNT_VAL | BELLACUSH_CRC_ERR) && part[2] == 0xB7);
 }
 
+static void asked_sets_of_a_block(void)
+{
+    static const uint16_t req[3] = {0xFFFF, 5, 6};
+    static const uint8_t wanted[6] = {0, 7, 0, 5, 0, 0};
+    struct lent l = asking(3, req), before;
+
+    /* host 2 votes against itself; bits at or above n are nothing */
+    CHECK(bellacush_write_config(6, 0, 0xFFFB, 0, l.block + 22, 11) == BELLACUSH_DONE);
+    before = l;
+    CHECK(bellacush_asked(3, l.block, 33, l.table, 31) == BELLACUSH_BAD_LEN);
+    CHECK(bellacush_asked(0, l.block, 0, l.table, 33) == BELLACUSH_BAD_LEN);
+    CHECK(bellacush_asked(0, l.block, 0, l.table, 32) == BELLACUSH_BAD_PORTS);
+    CHECK(bellacush_asked(17, l.block, 176, l.table, 32) == BELLACUSH_BAD_PORTS);
+    CHECK(bellacush_asked(3, l.block, 32, l.table, 32) == BELLACUSH_BAD_BLOCK_LEN);
+    CHECK(bellacush_asked(3, NULL, 0, NULL, 0) == BELLACUSH_BAD_LEN);
+    CHECK(same(&l, &before));
+    CHECK(bellacush_asked(3, l.block, 33, l.table, 32) == BELLACUSH_DONE);
+    CHECK(memcmp(l.table, wanted, sizeof wanted) == 0);
+    CHECK(l.table[6] == 0 && l.table[31] == 0 && l.table[32] == 0xB7);
+    memset(l.block, 0, 11);
+    CHECK(bellacush_asked(3, l.block, 33, l.table, 32) == BELLACUSH_DONE);
+    CHECK(l.table[0] == 0 && l.table[1] == 0 && l.table[3] == 5 && l.table[5] == 0);
+}
+
+/* The figures of a pair are these. */
+static int shows(const uint32_t *ledger, uint32_t i, uint32_t t, uint32_t asked,
+                 uint32_t connected, uint32_t fresh, uint32_t withdrawn, uint32_t open)
+{
+    uint32_t f[BELLACUSH_FIGURES_LEN] = {9, 9, 9, 9, 9};
+
+    return bellacush_figures(ledger, BELLACUSH_LEDGER_LEN, i, t, f, 5) == BELLACUSH_DONE &&
+           f[BELLACUSH_ASKED] == asked && f[BELLACUSH_CONNECTED] == connected &&
+           f[BELLACUSH_FRESH] == fresh && f[BELLACUSH_WITHDRAWN] == withdrawn &&
+           f[BELLACUSH_OPEN] == open;
+}
+
+/* Feeds sets of initiator 1 alone. */
+static uint32_t feed_1(uint32_t *ledger, uint32_t n, unsigned asks, unsigned holds)
+{
+    uint8_t asked[BELLACUSH_TABLE_LEN] = {0}, connected[BELLACUSH_TABLE_LEN] = {0};
+
+    asked[2] = (uint8_t)(asks / 256);
+    asked[3] = (uint8_t)(asks % 256);
+    connected[2] = (uint8_t)(holds / 256);
+    connected[3] = (uint8_t)(holds % 256);
+    return bellacush_feed(ledger, BELLACUSH_LEDGER_LEN, n, asked, sizeof asked, connected,
+                          sizeof connected);
+}
+
+static void a_ledger_counts_a_request_once(void)
+{
+    uint32_t ledger[BELLACUSH_LEDGER_LEN];
+
+    memset(ledger, 0, sizeof ledger);
+    CHECK(shows(ledger, 1, 2, 0, 0, 0, 0, 0));
+    CHECK(feed_1(ledger, 16, 1u << 2 | 1u << 15, 1u << 3) == BELLACUSH_DONE);
+    CHECK(shows(ledger, 1, 2, 1, 0, 1, 0, 1) && shows(ledger, 1, 3, 0, 0, 0, 0, 0));
+    CHECK(feed_1(ledger, 16, 1u << 2 | 1u << 15, 0) == BELLACUSH_DONE);
+    CHECK(shows(ledger, 1, 2, 2, 0, 1, 0, 1) && shows(ledger, 1, 15, 2, 0, 1, 0, 1));
+    CHECK(feed_1(ledger, 3, 1u << 2 | 1u << 15, 1u << 2) == BELLACUSH_DONE);
+    CHECK(shows(ledger, 1, 2, 3, 1, 1, 0, 0) && shows(ledger, 1, 15, 2, 0, 1, 1, 0));
+    CHECK(feed_1(ledger, 16, 1u << 2, 0) == BELLACUSH_DONE);
+    CHECK(shows(ledger, 1, 2, 4, 1, 2, 0, 1) && shows(ledger, 2, 1, 0, 0, 0, 0, 0));
+    CHECK(ledger[0] == 4 && ledger[1 + 18] == 4 && ledger[257 + 18] == 1);
+    CHECK(ledger[513 + 18] == 2 && ledger[769 + 31] == 1 && ledger[1025 + 1] == 4);
+}
+
+static void a_ledger_that_cannot_be_is_refused(void)
+{
+    uint32_t ledger[BELLACUSH_LEDGER_LEN], kept[BELLACUSH_LEDGER_LEN];
+    uint32_t figures[BELLACUSH_FIGURES_LEN] = {7, 7, 7, 7, 7};
+    uint8_t t[BELLACUSH_TABLE_LEN + 1] = {0};
+
+    memset(ledger, 0, sizeof ledger);
+    ledger[769] = 1;
+    memcpy(kept, ledger, sizeof kept);
+    CHECK(bellacush_feed(ledger, 1040, 0, t, 32, t, 32) == BELLACUSH_BAD_LEN);
+    CHECK(bellacush_feed(ledger, 1041, 0, t, 33, t, 32) == BELLACUSH_BAD_LEN);
+    CHECK(bellacush_feed(ledger, 1041, 0, t, 32, t, 31) == BELLACUSH_BAD_LEN);
+    CHECK(bellacush_feed(NULL, 0, 1, NULL, 0, NULL, 0) == BELLACUSH_BAD_LEN);
+    CHECK(bellacush_feed(ledger, 1041, 0, t, 32, t, 32) == BELLACUSH_BAD_PORTS);
+    CHECK(bellacush_feed(ledger, 1041, 17, t, 32, t, 32) == BELLACUSH_BAD_PORTS);
+    CHECK(bellacush_feed(ledger, 1041, 1, t, 32, t, 32) == BELLACUSH_BAD_LEDGER);
+    CHECK(memcmp(ledger, kept, sizeof kept) == 0);
+    memset(ledger, 0, sizeof ledger);
+    ledger[1025 + 15] = 0x8000;
+    CHECK(bellacush_feed(ledger, 1041, 1, t, 32, t, 32) == BELLACUSH_BAD_LEDGER);
+    ledger[1025 + 15] = 0x10000;
+    CHECK(bellacush_feed(ledger, 1041, 1, t, 32, t, 32) == BELLACUSH_DONE && ledger[0] == 1);
+    ledger[0] = 4294967295u;
+    CHECK(bellacush_feed(ledger, 1041, 1, t, 32, t, 32) == BELLACUSH_BAD_LEDGER);
+    CHECK(bellacush_figures(ledger, 1042, 16, 0, figures, 5) == BELLACUSH_BAD_LEN);
+    CHECK(bellacush_figures(ledger, 1041, 16, 0, figures, 4) == BELLACUSH_BAD_LEN);
+    CHECK(bellacush_figures(NULL, 0, 0, 0, NULL, 0) == BELLACUSH_BAD_LEN);
+    CHECK(bellacush_figures(ledger, 1041, 16, 0, figures, 5) == BELLACUSH_BAD_GRANT_FIELD);
+    CHECK(bellacush_figures(ledger, 1041, 0, 4294967295u, figures, 5) == BELLACUSH_BAD_GRANT_FIELD);
+    CHECK(figures[0] == 7 && figures[4] == 7);
+}
+
+/* Slots served and fed, each block's copy refused and not fed. */
+static void a_ledger_beside_a_slot_loop(void)
+{
+    static const uint16_t req[2] = {1, 1};
+    struct lent l = asking(2, req);
+    uint32_t ledger[BELLACUSH_LEDGER_LEN], number;
+    uint8_t asked[BELLACUSH_TABLE_LEN];
+
+    memset(ledger, 0, sizeof ledger);
+    for (number = 5; number < 9; number++) {
+        CHECK(slot(&l, number, BELLACUSH_CENTRAL) == BELLACUSH_DONE);
+        CHECK(bellacush_asked(2, l.block, 22, asked, 32) == BELLACUSH_DONE);
+        CHECK(bellacush_feed(ledger, 1041, 2, asked, 32, l.table, 32) == BELLACUSH_DONE);
+        CHECK(slot(&l, number, BELLACUSH_CENTRAL) == BELLACUSH_SLOT_STALE);
+    }
+    CHECK(ledger[0] == 4);
+    CHECK(shows(ledger, 0, 0, 4, 2, 2, 0, 0) && shows(ledger, 1, 0, 4, 2, 3, 0, 1));
+}
+
 int main(void)
 {
-    constants_are_document_01s();
+    constants_are_the_documents();
     central_slot_is_served();
     distributed_slot_is_served();
     a_copy_is_refused_and_changes_nothing();
@@ -212,6 +334,10 @@ int main(void)
     link_and_quiet_hosts_are_told();
     config_frames();
     grant_frames();
+    asked_sets_of_a_block();
+    a_ledger_counts_a_request_once();
+    a_ledger_that_cannot_be_is_refused();
+    a_ledger_beside_a_slot_loop();
     printf("%u passed, %u failed\n", passed, failed);
     return failed == 0 ? 0 : 1;
 }
