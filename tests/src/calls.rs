@@ -60,12 +60,36 @@ extern "C" {
         out: *mut c_uchar,
         out_len: usize,
     ) -> u32;
+    fn bellacush_asked(
+        n: u32,
+        block: *const c_uchar,
+        block_len: usize,
+        table: *mut c_uchar,
+        table_len: usize,
+    ) -> u32;
+    fn bellacush_feed(
+        ledger: *mut u32,
+        ledger_len: usize,
+        n: u32,
+        asked: *const c_uchar,
+        asked_len: usize,
+        connected: *const c_uchar,
+        connected_len: usize,
+    ) -> u32;
+    fn bellacush_figures(
+        ledger: *const u32,
+        ledger_len: usize,
+        initiator: u32,
+        target: u32,
+        figures: *mut u32,
+        figures_len: usize,
+    ) -> u32;
 }
 
 /// The library's slot call itself, for those who call it in a way of their own.
 pub const SLOT: SlotCall = bellacush_slot;
 
-// Each call is sound for any lengths and bytes: a slice is valid for its length, and two
+// Each call is sound for any lengths, bytes and words: a slice is valid for its length, and two
 // slices lent at once do not overlap where one may be written.
 
 pub fn slot(
@@ -138,6 +162,45 @@ pub fn write_grant(
             crc_err,
             out.as_mut_ptr(),
             out.len(),
+        )
+    }
+}
+
+pub fn asked(n: u32, block: &[u8], table: &mut [u8]) -> u32 {
+    unsafe {
+        bellacush_asked(
+            n,
+            block.as_ptr(),
+            block.len(),
+            table.as_mut_ptr(),
+            table.len(),
+        )
+    }
+}
+
+pub fn feed(ledger: &mut [u32], n: u32, asked: &[u8], connected: &[u8]) -> u32 {
+    unsafe {
+        bellacush_feed(
+            ledger.as_mut_ptr(),
+            ledger.len(),
+            n,
+            asked.as_ptr(),
+            asked.len(),
+            connected.as_ptr(),
+            connected.len(),
+        )
+    }
+}
+
+pub fn figures(ledger: &[u32], initiator: u32, target: u32, figures: &mut [u32]) -> u32 {
+    unsafe {
+        bellacush_figures(
+            ledger.as_ptr(),
+            ledger.len(),
+            initiator,
+            target,
+            figures.as_mut_ptr(),
+            figures.len(),
         )
     }
 }

@@ -1,49 +1,61 @@
-//! Memory lent to a call, with guard bytes on both sides.
+//! Memory lent to a call, bytes or words, with guards on both sides.
 
 use std::ops::Deref;
 
 const GUARD: usize = 24;
-const GUARD_BYTE: u8 = 0xC3;
 
-pub struct Lent {
-    memory: Vec<u8>,
+/// What can be lent, with what stands around it.
+pub trait Unit: Copy + PartialEq {
+    const GUARD: Self;
+}
+
+impl Unit for u8 {
+    const GUARD: u8 = 0xC3;
+}
+
+impl Unit for u32 {
+    const GUARD: u32 = 0xC3C3_C3C3;
+}
+
+pub struct Lent<T = u8> {
+    memory: Vec<T>,
     start: usize,
     len: usize,
 }
 
-impl Lent {
-    /// A copy of `bytes`, at an odd place so that no alignment is taken for granted.
-    pub fn new(bytes: &[u8]) -> Lent {
-        let start = GUARD + 1 + bytes.len() % 4;
-        let mut memory = vec![GUARD_BYTE; start + bytes.len() + GUARD];
-        memory[start..start + bytes.len()].copy_from_slice(bytes);
+impl<T: Unit> Lent<T> {
+    /// A copy of `units`, at an odd place so that no further alignment is taken for granted.
+    pub fn new(units: &[T]) -> Lent<T> {
+        let start = GUARD + 1 + units.len() % 4;
+        let mut memory = vec![T::GUARD; start + units.len() + GUARD];
+        memory[start..start + units.len()].copy_from_slice(units);
         Lent {
             memory,
             start,
-            len: bytes.len(),
+            len: units.len(),
         }
     }
 
-    pub fn lend(&mut self) -> &mut [u8] {
+    pub fn lend(&mut self) -> &mut [T] {
         &mut self.memory[self.start..self.start + self.len]
     }
 
-    /// The bytes as the call left them, once nothing around them is seen to have changed.
-    pub fn back(self) -> Vec<u8> {
+    /// What the call left, once nothing around it is seen to have changed.
+    pub fn back(self) -> Vec<T> {
         let end = self.start + self.len;
         let guards = self.memory[..self.start].iter().chain(&self.memory[end..]);
         assert!(
-            guards.into_iter().all(|&byte| byte == GUARD_BYTE),
-            "bytes around a lent buffer of {} were changed",
+            guards.into_iter().all(|&unit| unit == T::GUARD),
+            "memory around a lent buffer of {} was changed",
             self.len
         );
         self.memory[self.start..end].to_vec()
     }
 }
 
-impl Deref for Lent {
-    type Target = [u8];
-    fn deref(&self) -> &[u8] {
+impl<T> Deref for Lent<T> {
+    type Target = [T];
+    fn deref(&self) -> &[T] {
         &self.memory[self.start..self.start + self.len]
     }
 }

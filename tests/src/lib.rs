@@ -1,8 +1,9 @@
 //! What the tests and the benchmarks share: the C form's calls, an independent account of what
-//! document 01 promises of each, and random slots to hold one against the other.
+//! documents 01 and 02 promise of each, and random slots to hold one against the other.
 
 pub mod calls;
 pub mod frames;
+pub mod ledger;
 pub mod lent;
 pub mod promises;
 pub mod random;

@@ -1,7 +1,8 @@
-//! What document 01 promises of each call of the C form, over our own frames and scheduler.
+//! What documents 01 and 02 promise of each call of the C form, over our own frames and
+//! scheduler; the ledger's calls are in a module of their own.
 
 use crate::frames::{Config, Grant, CONFIG_LEN, GRANT_LEN};
-use crate::scheduler::{schedule, Mode, Position, Schedule, MOST_PORTS};
+use crate::scheduler::{self, schedule, Matrix, Mode, Position, Schedule, MOST_PORTS};
 use crate::slots::{After, Slot, State, STATE_LEN, TABLE_LEN};
 
 const HALF: u32 = 1 << 31;
@@ -38,11 +39,7 @@ fn refusal(call: &Slot) -> Option<u32> {
 
 fn served(call: &Slot) -> After {
     let state = State::read(&call.state);
-    let hosts: Vec<Option<Config>> = call
-        .block
-        .chunks(CONFIG_LEN)
-        .map(|frame| Config::read(frame).ok())
-        .collect();
+    let hosts = hosts(&call.block);
     let mode = match call.mode {
         0 => Mode::Central,
         limit => Mode::Distributed { limit },
@@ -55,12 +52,19 @@ fn served(call: &Slot) -> After {
     let made = schedule(at, mode, &hosts);
     let mut after = call.kept(made.rounds * 256);
     after.state = advanced(state).bytes();
-    after.table = table(&made);
+    after.table = table(&made.held);
     for (host, heard) in hosts.iter().enumerate() {
         let frame = grant(host, &made, call.link, heard.is_some()).frame();
         after.out[GRANT_LEN * host..][..GRANT_LEN].copy_from_slice(&frame);
     }
     after
+}
+
+fn hosts(block: &[u8]) -> Vec<Option<Config>> {
+    block
+        .chunks(CONFIG_LEN)
+        .map(|frame| Config::read(frame).ok())
+        .collect()
 }
 
 fn advanced(state: State) -> State {
@@ -77,11 +81,11 @@ fn advanced(state: State) -> State {
     next
 }
 
-fn table(made: &Schedule) -> Vec<u8> {
+fn table(matrix: &Matrix) -> Vec<u8> {
     let weigh = |row: &[bool], from: usize| -> u8 {
         (0..8).map(|bit| u8::from(row[from + bit]) << bit).sum()
     };
-    made.held
+    matrix
         .iter()
         .flat_map(|row| [weigh(row, 8), weigh(row, 0)])
         .collect()
@@ -95,6 +99,19 @@ fn grant(host: usize, made: &Schedule, link: u16, heard: bool) -> Grant {
         gnt_val: lowest.is_some(),
         link_err: link >> host & 1 == 1,
         crc_err: !heard,
+    }
+}
+
+/// The number of the call for the sets asked, and the table as it leaves it.
+pub fn asked(n: u32, block: &[u8], kept: &[u8]) -> (u32, Vec<u8>) {
+    let tests = [
+        (8, kept.len() != TABLE_LEN),
+        (1, !(1..=MOST_PORTS as u32).contains(&n)),
+        (6, block.len() as u64 != CONFIG_LEN as u64 * u64::from(n)),
+    ];
+    match tests.iter().find(|test| test.1) {
+        Some(&(number, _)) => (number, kept.to_vec()),
+        None => (0, table(&scheduler::asked(&hosts(block)))),
     }
 }
 

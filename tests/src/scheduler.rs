@@ -35,14 +35,13 @@ pub struct Schedule {
 /// One slot; `None` is a host that is not heard.
 pub fn schedule(at: Position, mode: Mode, hosts: &[Option<Config>]) -> Schedule {
     assert_eq!(hosts.len(), at.ports);
-    let enabled = enabled(hosts);
     let mut slot = Slot {
         at,
         live: [[false; MOST_PORTS]; MOST_PORTS],
         held: [[false; MOST_PORTS]; MOST_PORTS],
     };
-    slot.keep_planned(&said(hosts, &enabled, |config| config.pre));
-    slot.raise_requests(&said(hosts, &enabled, |config| config.req));
+    slot.keep_planned(&said(hosts, |config| config.pre));
+    slot.raise_requests(&asked(hosts));
     let rounds = match mode {
         Mode::Central => {
             slot.match_central();
@@ -54,6 +53,11 @@ pub fn schedule(at: Position, mode: Mode, hosts: &[Option<Config>]) -> Schedule 
         held: slot.held,
         rounds,
     }
+}
+
+/// What is asked in a slot, planned or not.
+pub fn asked(hosts: &[Option<Config>]) -> Matrix {
+    said(hosts, |config| config.req)
 }
 
 fn bit(word: u16, at: usize) -> bool {
@@ -73,7 +77,8 @@ fn enabled(hosts: &[Option<Config>]) -> Vec<bool> {
 }
 
 /// A field of the heard and enabled hosts as a matrix, without targets at or above n.
-fn said(hosts: &[Option<Config>], enabled: &[bool], field: fn(&Config) -> u16) -> Matrix {
+fn said(hosts: &[Option<Config>], field: fn(&Config) -> u16) -> Matrix {
+    let enabled = enabled(hosts);
     let mut matrix = [[false; MOST_PORTS]; MOST_PORTS];
     for (initiator, host) in hosts.iter().enumerate() {
         let Some(config) = host else { continue };

@@ -145,10 +145,7 @@ impl After {
 
     /// The sixteen sets of targets.
     pub fn sets(&self) -> Vec<u16> {
-        self.table
-            .chunks(2)
-            .map(|pair| u16::from_be_bytes([pair[0], pair[1]]))
-            .collect()
+        sets(&self.table)
     }
 
     pub fn joins(&self, initiator: usize, target: usize) -> bool {
@@ -177,6 +174,19 @@ fn targets(held: u16) -> String {
     } else {
         names.join(",")
     }
+}
+
+/// The sets of a table.
+pub fn sets(table: &[u8]) -> Vec<u16> {
+    table
+        .chunks(2)
+        .map(|pair| u16::from_be_bytes([pair[0], pair[1]]))
+        .collect()
+}
+
+/// The table of these sets.
+pub fn table(sets: &[u16]) -> Vec<u8> {
+    sets.iter().flat_map(|set| set.to_be_bytes()).collect()
 }
 
 /// These targets as a set.
