@@ -2,7 +2,9 @@
 
 #[cfg(before)]
 mod before;
+mod feeds;
 mod plain;
+mod plain_ledger;
 mod stack;
 mod timing;
 mod traces;
@@ -34,6 +36,7 @@ fn main() {
     slots();
     checks();
     growth();
+    feeds::section();
     stacks();
     #[cfg(before)]
     before::compared();

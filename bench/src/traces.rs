@@ -89,6 +89,12 @@ impl Player {
         word
     }
 
+    /// Serves a block; gives the sets connected.
+    pub fn connected(&mut self, trace: &Trace, block: &[u8]) -> Vec<u8> {
+        assert_eq!(self.serve(trace, block) % 256, 0, "a slot was declined");
+        self.table.clone()
+    }
+
     /// Serves the whole trace once.
     pub fn pass(&mut self, trace: &Trace) {
         for block in &trace.blocks {
