@@ -1,3 +1,4 @@
+pub mod Told
 pub mod Trips
 pub mod Ledgers
 pub mod Parts
