@@ -15,7 +15,7 @@ fn show(label: u8, state: State, mode: Mode, req: u16, pre: u16) {
 }
 
 // Case G, whose host 1 clears ben bit 0.
-fn show_disabled(label: u8, state: State, req: u16, ben: u16) {
+fn show_voted(label: u8, state: State, req: u16, ben: u16) {
     let counted = lcf::counted(
         state.ports,
         0b11,
@@ -39,7 +39,7 @@ fn main() {
     show(b'D', at(3, 1, 2), Mode::Central, 0x605, 0);
     show(b'E', at(3, 0, 0), Mode::Central, 0x030, 0);
     show(b'F', at(4, 3, 1), Mode::Central, 0x0039, 0xa008);
-    show_disabled(b'G', at(2, 0, 0), 0x11, 0x23);
+    show_voted(b'G', at(2, 0, 0), 0x11, 0x23);
     show(b'H', at(3, 0, 0), Mode::Distributed(1), 0x613, 0);
     show(b'I', at(3, 2, 0), Mode::Distributed(2), 0x473, 0);
 }

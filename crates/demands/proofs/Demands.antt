@@ -12,6 +12,10 @@ pub use Rattle.demands.proofs.SlotServed.{served-in-order, served-advan
 pub use Rattle.demands.proofs.Started.{fresh-in-order, fresh-serves, fresh-serves-only}
 -- Demand 2. Nothing from nowhere: a connection is an enabled heard host's, first claimed or live. What was given is connected.
 pub use Rattle.demands.proofs.SlotConnections.{nothing-from-nowhere, absent-unconnected, given-connected}
+-- Who is enabled: disabled only by two different heard hosts, so that one host by itself, whatever it votes, changes nothing.
+pub use Rattle.demands.proofs.Hosts.{present-exactly, one-disables-nobody}
+pub use Rattle.demands.proofs.SlotHosts.{enabled-exactly}
+pub use Rattle.demands.proofs.OneHost.{one-port-enabled, one-vote-changes-nothing, one-vote-changes-no-grant}
 -- A missing frame is unheard, and qen is unused.
 pub use Rattle.demands.proofs.SlotHosts.{missing-unheard}
 pub use Rattle.demands.proofs.Qen.{qen-unused, qen-unused-output}

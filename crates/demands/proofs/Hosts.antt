@@ -1,35 +1,39 @@
 -- Rules 1 and 2: what counts of the hosts' fields.
 use mathlib.Core.Path.{_≡_, refl, sym, ap, _∙_}
 use mathlib.Core.Logic.{_↔_}
-use mathlib.Core.Bool.{Bool, true, false, not, _&&_, cond, true≢false}
+use mathlib.Core.Bool.{Bool, true, false, cond, true≢false}
 use mathlib.Core.List.{List}
 use Prim.Native.Nat.{ℕ, _<_}
+use native.Mathlib.Decide.{ℕ-discrete}
 use lib.ListN.{length, getD}
-use borrow.Author.Tests.{eqb-true, not-true, not-false}
+use borrow.Author.Tests.{lt-ltb, ltb-true}
 use Rattle.laws.specs.Sets.{has, asks}
-use Rattle.laws.proofs.Tests.{both, refuted}
-use Rattle.laws.proofs.Members.{has-none, asks-row, tabled-asks, has-gathered, gathered-none}
+use Rattle.laws.proofs.Tests.{both, same}
+use Rattle.laws.proofs.Tallies.{tally-few}
+use Rattle.laws.proofs.Members.{has-none, asks-row, tabled-asks}
 use Rattle.laws.proofs.Rows.{row-tabled}
-use Rattle.lcf.specs.Heard.{clearers, present, counted}
+use Rattle.lcf.specs.Heard.{clears, present, counted}
 
 module _ (n heard : ℕ) (ben : List ℕ) where
-  -- rule 2: an initiator is present if it is heard and every heard host has its bit set in ben
+  -- Rule 2: an initiator is present if it is heard, and any two heard hosts that clear its bit are one.
   pub present-exactly : (i : ℕ) → (present n heard ben i ≡ true)
-      ↔ ((has heard i ≡ true) × ((h : ℕ) → h < n → has heard h ≡ true → asks ben h i ≡ true))
-  unfolding present clearers
-  present-exactly i = (to, from)
+      ↔ ((has heard i ≡ true) × ((g h : ℕ) → g < n → h < n → clears heard ben i g ≡ true → clears heard ben i h ≡ true → g ≡ h))
+  unfolding present
+  present-exactly i = (
+    λ e. let (a, b) = both (has heard i) _ e in (a, tally-few (clears heard ben i) n .0 (ltb-true _ 2 b)),
+    λ (a, alone). rw (a, lt-ltb _ 2 (tally-few (clears heard ben i) n .1 alone)),
+  )
+
+  -- A single host, whatever it votes, disables nobody.
+  pub one-disables-nobody : (g i : ℕ) → ((h : ℕ) → h < n → (h ≡ g → ⊥) → clears heard ben i h ≡ false) → present n heard ben i ≡ has heard i
+  one-disables-nobody g i others = same _ _ (λ e. present-exactly i .0 e .0) (λ e. present-exactly i .1 (e, λ x y x< y< p q. only x x< p ∙ sym (only y y< q)))
     where
-      clears : ℕ → Bool
-      clears h = has heard h && not (asks ben h i)
-
-      to : present n heard ben i ≡ true → (has heard i ≡ true) × ((h : ℕ) → h < n → has heard h ≡ true → asks ben h i ≡ true)
-      to e =
-          let (a, b) = both (has heard i) _ e in
-          let nobody : (h : ℕ) → h < n → clears h ≡ false = λ h h<. sym (has-gathered clears n h h<) ∙ ap (λ s. has s h) (eqb-true _ 0 b) ∙ has-none h in
-          (a, λ h h< q. not-false _ (refuted _ (λ z. true≢false (sym (rw (q, z)) ∙ nobody h h<))))
-
-      from : (has heard i ≡ true) × ((h : ℕ) → h < n → has heard h ≡ true → asks ben h i ≡ true) → present n heard ben i ≡ true
-      from (a, b) = rw (a, gathered-none clears n (λ h h<. refuted _ (λ e. let (x, y) = both (has heard h) _ e in true≢false (sym (b h h< x) ∙ not-true _ y))))
+      only : (h : ℕ) → h < n → clears heard ben i h ≡ true → h ≡ g
+      only h h< e = go (ℕ-discrete h g)
+        where
+          go : Dec (h ≡ g) → h ≡ g
+          go (yes s) = s
+          go (no s) = absurd (true≢false (sym e ∙ others h h< s))
 
   -- what counts of a field is what a present initiator sent
   pub counted-asks : (rows : List ℕ) (i t : ℕ) → asks (counted n heard ben rows) i t ≡ true → (present n heard ben i ≡ true) × (asks rows i t ≡ true)

@@ -3,6 +3,7 @@ pub mod Demands
 -- the slot call on frames
 pub mod SlotShare
 pub mod SlotConnections
+pub mod OneHost
 pub mod SlotGrants
 pub mod SlotRefusal
 pub mod SlotServed

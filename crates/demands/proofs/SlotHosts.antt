@@ -1,15 +1,15 @@
 -- Rules 1 to 4: what the frames of a whole block say is what counts in the tables.
 use mathlib.Core.Path.{_≡_, refl, sym, ap, _∙_}
 use mathlib.Core.Logic.{_↔_}
-use mathlib.Core.Bool.{true}
+use mathlib.Core.Bool.{true, not}
 use mathlib.Core.List.{List}
 use Prim.Native.Nat.{ℕ, _+_, _*_, _≤_, _<_}
 use native.Mathlib.Nat.{mod-lt}
 use native.Mathlib.Omega.{arith}
 use lib.ListN.{length, getD, replicate}
-use borrow.Author.Tests.{eqb-true, eq-eqb, le-ltb, lt-leb}
+use borrow.Author.Tests.{eqb-true, eq-eqb, le-ltb, lt-leb, not-true}
 use Rattle.laws.specs.Sets.{has, asks, tabled}
-use Rattle.laws.proofs.Tests.{refuted}
+use Rattle.laws.proofs.Tests.{both, every, refuted}
 use Rattle.laws.proofs.Members.{gathered-has, has-gathered}
 use Rattle.laws.proofs.Rows.{row-tabled}
 use Rattle.frames.specs.Frame.{Answer}
@@ -17,13 +17,13 @@ use Rattle.frames.specs.Config.{configLen, readConfig}
 use Rattle.frames.specs.Part.{hostNumber}
 use Rattle.frames.specs.declared.config.Config.{Config}
 use Rattle.frames.proofs.Trips.{zeros-unread}
-use Rattle.lcf.specs.Heard.{present, counted}
+use Rattle.lcf.specs.Heard.{clears, present, counted}
 use Rattle.lcf.specs.declared.state.State.{State}
 use Rattle.shelf.specs.Hosts.{said, isHeard, fieldOf, hostsOf}
 use Rattle.demands.specs.Origin as tables
 use Rattle.demands.specs.Share as tables-share
 use Rattle.demands.specs.Choice.{targetStart}
-use Rattle.demands.specs.Block.{framePart, says, Heard, Requests, Plans, Enabled, Waits, Given, Live}
+use Rattle.demands.specs.Block.{framePart, says, Heard, Requests, Plans, Clears, Enabled, Waits, Given, Live}
 use Rattle.demands.proofs.Hosts.{present-exactly, counted-asks, asks-counted}
 
 -- A missing frame, eleven zeros, is unheard.
@@ -47,7 +47,7 @@ module _ {m n : ℕ} {block : List ℕ} (whole : Whole m n block) where
 
   -- ---- rule 1
 
-  said-says : (h : ℕ) → h < n → said m n block h ≡ says block h
+  pub said-says : (h : ℕ) → h < n → said m n block h ≡ says block h
   unfolding said hostNumber
   said-says h h< =
       rw (le-ltb n 1 (whole .some-port), le-ltb m n (whole .most-ports), eq-eqb (length block) (n * configLen) (whole .whole-block), lt-leb n h h<)
@@ -64,24 +64,29 @@ module _ {m n : ℕ} {block : List ℕ} (whole : Whole m n block) where
 
   -- ---- rule 2
 
+  votes : (h : ℕ) → h < n → getD ben h 0 ≡ says block h .fields .ben
+  unfolding hostsOf
+  votes = field-row (λ c. c .ben)
+
+  pub clears-exactly : (i h : ℕ) → h < n → (clears heard ben i h ≡ true) ↔ Clears block i h
+  clears-exactly i h h< = (
+    λ e. let (a, b) = both (has heard h) _ e in record { heard = heard-exactly h h< .0 a; clear = ap (λ s. has s i) (sym (votes h h<)) ∙ not-true _ b },
+    λ c. every (heard-exactly h h< .1 (c .heard)) (ap not (ap (λ s. has s i) (votes h h<) ∙ c .clear)),
+  )
+
   pub enabled-exactly : (i : ℕ) → (present n heard ben i ≡ true) ↔ ((i < n) × Enabled n block i)
   unfolding hostsOf
   enabled-exactly i = (to, from)
     where
-      votes : (h : ℕ) → h < n → getD ben h 0 ≡ says block h .fields .ben
-      votes = field-row (λ c. c .ben)
-
       to : present n heard ben i ≡ true → (i < n) × Enabled n block i
       to e =
           let (a, b) = present-exactly n heard ben i .0 e in
-          let i< = gathered-has (isHeard m n block) n i a .0 in (
-            i<,
-            record { heard = heard-exactly i i< .0 a; voted = λ h h< q. ap (λ s. has s i) (sym (votes h h<)) ∙ b h h< (heard-exactly h h< .1 q) },
-          )
+          let i< = gathered-has (isHeard m n block) n i a .0 in
+          (i<, record { heard = heard-exactly i i< .0 a; not-by-two = λ g h g< h< p q. b g h g< h< (clears-exactly i g g< .1 p) (clears-exactly i h h< .1 q) })
 
       from : (i < n) × Enabled n block i → present n heard ben i ≡ true
       from (i<, e) = present-exactly n heard ben i .1
-          (heard-exactly i i< .1 (e .heard), λ h h< q. ap (λ s. has s i) (votes h h<) ∙ e .voted h h< (heard-exactly h h< .0 q))
+          (heard-exactly i i< .1 (e .heard), λ g h g< h< p q. e .not-by-two g h g< h< (clears-exactly i g g< .0 p) (clears-exactly i h h< .0 q))
 
   -- what counts of a field is what an enabled host sent
   counts : (field : Config → ℕ) (i t : ℕ)

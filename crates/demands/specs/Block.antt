@@ -1,6 +1,6 @@
 -- Rules 1 to 4, said of the frames in a slot block.
 use mathlib.Core.Path.{_≡_}
-use mathlib.Core.Bool.{true}
+use mathlib.Core.Bool.{true, false}
 use mathlib.Core.List.{List}
 use Prim.Native.Nat.{ℕ, _*_, _<_}
 use lib.ListN.{length, take, drop}
@@ -31,10 +31,15 @@ Requests block h t = has (says block h .fields .req) t ≡ true
 abbrev pub Plans : List ℕ → ℕ → ℕ → Type 0
 Plans block h t = has (says block h .fields .pre) t ≡ true
 
--- rule 2: host i is heard, and no heard host of n has bit i clear in ben
+-- rule 2: host h is heard and has bit i clear in ben
+pub record Clears (block : List ℕ) (i h : ℕ) : Type 0 where
+  pub heard : Heard block h
+  pub clear : has (says block h .fields .ben) i ≡ false
+
+-- rule 2: host i is heard, and no two different hosts of n clear its bit
 pub record Enabled (n : ℕ) (block : List ℕ) (i : ℕ) : Type 0 where
   pub heard : Heard block i
-  pub voted : (h : ℕ) → h < n → Heard block h → has (says block h .fields .ben) i ≡ true
+  pub not-by-two : (g h : ℕ) → g < n → h < n → Clears block i g → Clears block i h → g ≡ h
 
 -- document 02, item 1: target t is asked by host i, both below n: the host is heard and enabled, and t is in its req
 pub record Asks (n : ℕ) (block : List ℕ) (i t : ℕ) : Type 0 where

@@ -4,6 +4,7 @@ pub mod Block
 pub mod SlotShare
 pub mod Told
 pub mod LentCall
+pub mod OneHost
 pub mod Numbers
 -- the call on tables
 pub mod Call

@@ -5,6 +5,7 @@ pub mod Members
 pub mod Parts
 pub mod Rows
 pub mod Steps
+pub mod Tallies
 pub mod Tests
 pub mod Unique
 pub mod Words

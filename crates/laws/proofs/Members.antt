@@ -74,16 +74,28 @@ and-pred (suc w) s f h = go (s % 2) refl (and-pred w (s / 2))
 pub has-none : (k : ℕ) → has 0 k ≡ false
 has-none k = ap (λ d. eqb d 1) (digit-none k)
 
-pub has-with : (s k j : ℕ) → has (with s k) j ≡ (has s j || eqb j k)
-has-with s k j = ap (λ d. eqb d 1) (ap (λ x. x % 2) (or-shr s (2 ^ k) j) ∙ or-mod (s / 2 ^ j) (2 ^ k / 2 ^ j) 1 ∙ ap (bitOr (digit s j)) (digit-power k j))
-    ∙ go (digit s j) (mod-lt (s / 2 ^ j) (omega arith)) (eqb j k)
+pub has-or : (s u j : ℕ) → has (bitOr s u) j ≡ (has s j || has u j)
+has-or s u j = ap (λ d. eqb d 1) (ap (λ x. x % 2) (or-shr s u j) ∙ or-mod (s / 2 ^ j) (u / 2 ^ j) 1)
+    ∙ go (digit s j) (digit u j) (mod-lt (s / 2 ^ j) (omega arith)) (mod-lt (u / 2 ^ j) (omega arith))
   where
-    go : (d : ℕ) → d < 2 → (b : Bool) → eqb (bitOr d (cond b 1 0)) 1 ≡ (eqb d 1 || b)
-    go zero h true = refl
-    go zero h false = refl
-    go (suc zero) h true = refl
-    go (suc zero) h false = refl
-    go (suc (suc d)) h b = absurd (omega arith)
+    go : (d e : ℕ) → d < 2 → e < 2 → eqb (bitOr d e) 1 ≡ (eqb d 1 || eqb e 1)
+    go zero zero h l = refl
+    go zero (suc zero) h l = refl
+    go (suc zero) zero h l = refl
+    go (suc zero) (suc zero) h l = refl
+    go zero (suc (suc e)) h l = absurd (omega arith)
+    go (suc zero) (suc (suc e)) h l = absurd (omega arith)
+    go (suc (suc d)) e h l = absurd (omega arith)
+
+has-power : (k j : ℕ) → has (2 ^ k) j ≡ eqb j k
+has-power k j = ap (λ d. eqb d 1) (digit-power k j) ∙ go (eqb j k)
+  where
+    go : (b : Bool) → eqb (cond b 1 0) 1 ≡ b
+    go true = refl
+    go false = refl
+
+pub has-with : (s k j : ℕ) → has (with s k) j ≡ (has s j || eqb j k)
+has-with s k j = has-or s (2 ^ k) j ∙ ap (λ b. has s j || b) (has-power k j)
 
 pub has-without : (s k j : ℕ) → has (without s k) j ≡ (not (eqb j k) && has s j)
 has-without s k j = ap (λ d. eqb d 1) (digit-without s k j) ∙ go (eqb j k)
@@ -129,9 +141,6 @@ module _ (p : ℕ → Bool) where
           go : Dec (j ≡ k) → has (cond (p k) (with s k) s) j ≡ true
           go (yes e) = rw (← e, q, has-with, eq-eqb j j refl) (or-true (has s j))
           go (no e) = let b = before (omega arith) in arms (λ s. has s j ≡ true) (p k) _ _ (λ _. rw (has-with, b)) (λ _. b)
-
-pub gathered-none : (p : ℕ → Bool) (n : ℕ) → ((k : ℕ) → k < n → p k ≡ false) → gathered p n ≡ 0
-gathered-none p n h = kept _ 0 (λ k s. s ≡ 0) n (λ k s l e. rw (h k l) e) refl
 
 -- ---- the pairs of a table
 

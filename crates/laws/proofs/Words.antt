@@ -1,14 +1,13 @@
 -- Words as sets, over every width w: what the code's shifts and masks come to, and which digits they leave.
 use mathlib.Core.Path.{_≡_, refl, sym, ap, _∙_}
-use mathlib.Core.Bool.{false, _&&_}
+use mathlib.Core.Bool.{_&&_}
 use Prim.Native.Nat.{ℕ, zero, suc, min, _+_, _-_, _*_, _/_, _%_, _^_, _≤_, _<_}
 use native.Mathlib.Nat.{mod-lt, one-mul, div-one, pow-suc, mul-comm, div-div-eq-div-mul, lt-of-lt-of-le, div-eq-of-lt, le-of-suc-le-suc, not-suc-le-zero}
 use native.Mathlib.Decide.{decLt}
 use native.Mathlib.Omega.{arith}
-use borrow.Author.Tests.{ne-eqb}
 use lib.Dec.{eqb}
-use lib.Pow.{shl-exact, pow-pos, pow-add, pow-mono, shr-shr, mod-mod-pow, field, high, low}
-use lib.Bits.{bitAnd, bitOr, and-high, and-shr, and-step, and-le-l, or-add-and}
+use lib.Pow.{shl-exact, pow-add, pow-mono, shr-shr, mod-mod-pow, field, high, low}
+use lib.Bits.{bitAnd, bitOr, and-high, and-shr, and-step}
 use lib.Count.{trailingZeros, under}
 use Rattle.laws.specs.Sets.{digit, has, with, without}
 
@@ -40,10 +39,6 @@ min-bits (suc (suc x)) y h l = absurd (omega arith)
 
 pub has-and : (a b k : ℕ) → has (bitAnd a b) k ≡ (has a k && has b k)
 has-and a b k = ap (λ d. eqb d 1) (digit-and a b k) ∙ min-bits _ _ (mod-lt (a / 2 ^ k) (omega arith)) (mod-lt (b / 2 ^ k) (omega arith))
-
--- a set with k is not empty
-pub with-some : (s k : ℕ) → eqb (with s k) 0 ≡ false
-with-some s k = ne-eqb (with s k) 0 (λ e. omega (arith, or-add-and s (2 ^ k), and-le-l s (2 ^ k), pow-pos k))
 
 digit-zero : (s : ℕ) → digit s 0 ≡ s % 2
 digit-zero s = ap (λ x. x % 2) (div-one s)

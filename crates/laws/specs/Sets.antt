@@ -1,5 +1,5 @@
 -- Sets of numbers as words of any width: k is in s if bit k of s is 1. And tables of such sets, a row a set.
-use Prim.Native.Nat.{ℕ, _-_, _*_, _/_, _%_, _^_}
+use Prim.Native.Nat.{ℕ, suc, _-_, _*_, _/_, _%_, _^_}
 use mathlib.Core.Bool.{Bool, cond}
 use mathlib.Core.List.{List, map}
 use lib.Bits.{bitOr}
@@ -26,6 +26,10 @@ without s k = s - digit s k * 2 ^ k
 -- the set of the k below n with p k
 abbrev pub gathered : (ℕ → Bool) → ℕ → ℕ
 gathered p = steps (λ k s. cond (p k) (with s k) s) 0
+
+-- how many k below n have p k
+abbrev pub tally : (ℕ → Bool) → ℕ → ℕ
+tally p = steps (λ k c. cond (p k) (suc c) c) 0
 
 -- the pair (i, t) is in a table: t is in row i
 abbrev pub asks : List ℕ → ℕ → ℕ → Bool

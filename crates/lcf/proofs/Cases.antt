@@ -6,7 +6,7 @@ use lib.Count.{ones}
 use lib.ListN.{replicate, take}
 use Rattle.laws.specs.Steps.{steps}
 use Rattle.frames.specs.Part.{mostPorts}
-use Rattle.lcf.specs.Heard.{clearers, present, counted}
+use Rattle.lcf.specs.Heard.{present, counted}
 use Rattle.lcf.specs.Choice.{choice}
 use Rattle.lcf.specs.Join.{join, joinLive}
 use Rattle.lcf.specs.Planned.{planner, give, planned}
@@ -53,10 +53,10 @@ worked : cases ≡
     ∷ (0 ∷ 0 ∷ 1 ∷ 0 ∷ 4 ∷ [])
     ∷ (0 ∷ 0 ∷ 0 ∷ 1 ∷ 0 ∷ [])
     ∷ (0 ∷ 0 ∷ 1 ∷ 0 ∷ 0 ∷ 10 ∷ [])
-    ∷ (0 ∷ 0 ∷ 0 ∷ 1 ∷ [])
+    ∷ (0 ∷ 0 ∷ 1 ∷ 0 ∷ [])
     ∷ (0 ∷ 1 ∷ 1 ∷ 0 ∷ 4 ∷ [])
     ∷ (0 ∷ 1 ∷ 2 ∷ 0 ∷ 4 ∷ [])
     ∷ (0 ∷ 2 ∷ 2 ∷ 1 ∷ 4 ∷ [])
     ∷ []
-unfolding cases none shown whole steps ones clearers present counted choice join joinLive planner give planned fewest winner serve askers grants offers accepted answer round oneMore distributed advance within start serveMode matched behind wrongLimit dueNumber declined ended slotOnTables
+unfolding cases none shown whole steps ones present counted choice join joinLive planner give planned fewest winner serve askers grants offers accepted answer round oneMore distributed advance within start serveMode matched behind wrongLimit dueNumber declined ended slotOnTables
 worked = refl

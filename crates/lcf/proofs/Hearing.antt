@@ -1,42 +1,78 @@
--- Who is present, as a set that each heard host narrows; and hosts past the last row change nothing.
+-- Who is present, as sets that each heard host narrows; and hosts past the last row change nothing.
 use mathlib.Core.Path.{_≡_, refl, sym, ap, _∙_}
-use mathlib.Core.Bool.{Bool, true, false, not, _&&_, cond, and-true, and-false}
+use mathlib.Core.Bool.{Bool, true, false, not, _&&_, _||_, cond, and-true, and-false, or-false}
 use mathlib.Core.List.{List}
 use Prim.Native.Nat.{ℕ, zero, suc, min, _+_, _-_, _^_, _<_}
 use native.Mathlib.Omega.{arith}
-use borrow.Author.Tests.{leb-true, leb-false}
-use lib.Bits.{bitAnd}
-use lib.Dec.{eqb, leb}
+use borrow.Author.Tests.{leb-true, leb-false, le-ltb}
+use lib.Bits.{bitAnd, bitOr}
+use lib.Dec.{eqb, ltb, leb, eqb·suc-zero}
 use lib.ListN.{length, getD, set}
 use lib.Seq.{set-out}
 use Rattle.laws.specs.Steps.{steps}
-use Rattle.laws.specs.Sets.{has, asks, with, tabled}
+use Rattle.laws.specs.Sets.{has, asks, tally, tabled}
 use Rattle.laws.proofs.Loops.{same-steps, stays}
 use Rattle.laws.proofs.Rows.{length-tabled}
-use Rattle.laws.proofs.Words.{has-and, with-some, digit-past}
-use Rattle.lcf.specs.Heard.{clearers, present, Present, counted, tables}
+use Rattle.laws.proofs.Words.{has-and, digit-past}
+use Rattle.laws.proofs.Members.{has-or}
+use Rattle.lcf.specs.Heard.{clears, present, Present, counted, tables}
+use Rattle.lcf.specs.declared.heard.Votes.{Votes}
+
+-- fewer than two have cleared it, also if none has
+kept : (h : Bool) (c : ℕ) → ((h && ltb c 2) || (h && eqb c 0)) ≡ (h && ltb c 2)
+kept true zero = refl
+kept true (suc zero) = refl
+kept true (suc (suc c)) = rw (eqb·suc-zero (suc c), or-false)
+kept false c = refl
+
+-- none has, so one more makes one
+one : (h : Bool) (c : ℕ) → (h && eqb c 0) ≡ (h && ltb (suc c) 2)
+one true zero = refl
+one true (suc c) = rw (eqb·suc-zero c, le-ltb (suc (suc c)) 2 (omega arith))
+one false c = refl
 
 module _ (heard : ℕ) (ben : List ℕ) where
-  -- the first n hosts have narrowed the set
-  abbrev pub narrowed : ℕ → ℕ
-  narrowed = steps (λ h s. cond (has heard h) (bitAnd s (getD ben h 0)) s) heard
+  -- the first n hosts have voted
+  abbrev pub voted : ℕ → Votes
+  voted = steps (λ h v. cond (has heard h) (record { uncleared = bitAnd (v .uncleared) (getD ben h 0); enabled = bitOr (bitAnd (v .enabled) (getD ben h 0)) (v .uncleared) }) v) (record { uncleared = heard; enabled = heard })
 
-  pub who : (n i : ℕ) → has (narrowed n) i ≡ present n heard ben i
-  unfolding steps clearers present
-  who zero i = sym (and-true (has heard i))
-  who (suc n) i = go (has heard n) (asks ben n i) refl refl (who n i)
+  -- i is in the sets as c hosts have cleared it: none, and fewer than two
+  record Voted (v : Votes) (i c : ℕ) : Type 0 where
+    none : has (v .uncleared) i ≡ (has heard i && eqb c 0)
+    few : has (v .enabled) i ≡ (has heard i && ltb c 2)
+
+  votes : (n i : ℕ) → Voted (voted n) i (tally (clears heard ben i) n)
+  unfolding steps
+  votes zero i = record { none = sym (and-true (has heard i)); few = sym (and-true (has heard i)) }
+  votes (suc n) i = go (has heard n) (asks ben n i) refl (votes n i)
     where
-      go : (b c : Bool) → has heard n ≡ b → asks ben n i ≡ c → has (narrowed n) i ≡ (has heard i && eqb (clearers n heard ben i) 0)
-          → has (cond b (bitAnd (narrowed n) (getD ben n 0)) (narrowed n)) i ≡ (has heard i && eqb (cond (b && not c) (with (clearers n heard ben i) n) (clearers n heard ben i)) 0)
-      go true true p q e = has-and (narrowed n) (getD ben n 0) i ∙ rw (q, and-true) e
-      go true false p q e = has-and (narrowed n) (getD ben n 0) i ∙ rw (q, and-false, with-some, and-false)
-      go false c p q e = e
+      v : Votes
+      v = voted n
+
+      c : ℕ
+      c = tally (clears heard ben i) n
+
+      go : (b d : Bool) → asks ben n i ≡ d → Voted v i c
+          → Voted (cond b (record { uncleared = bitAnd (v .uncleared) (getD ben n 0); enabled = bitOr (bitAnd (v .enabled) (getD ben n 0)) (v .uncleared) }) v) i (cond (b && not d) (suc c) c)
+      go true true q e = record {
+        none = has-and (v .uncleared) (getD ben n 0) i ∙ rw (q, and-true) (e .none);
+        few = has-or (bitAnd (v .enabled) (getD ben n 0)) (v .uncleared) i ∙ rw (has-and, q, and-true, e .none, e .few) (kept (has heard i) c);
+      }
+      go true false q e = record {
+        none = has-and (v .uncleared) (getD ben n 0) i ∙ rw (q, and-false, eqb·suc-zero, and-false);
+        few = has-or (bitAnd (v .enabled) (getD ben n 0)) (v .uncleared) i ∙ rw (has-and, q, and-false, e .none) (one (has heard i) c);
+      }
+      go false d q e = e
+
+  pub who : (n i : ℕ) → has (voted n .enabled) i ≡ present n heard ben i
+  unfolding present
+  who n i = votes n i .few
 
   -- more hosts than rows, m, are none
   module _ (m d : ℕ) (h : heard < 2 ^ m) where
     unheard : (i : ℕ) → present (m + d) heard ben i ≡ present m heard ben i
-    unfolding clearers present
-    unheard i = ap (λ s. has heard i && eqb s 0) (stays _ 0 m d (λ k l. rw (digit-past heard m k h l)))
+    unfolding present
+    unheard i = ap (λ c. has heard i && ltb c 2) (stays _ 0 m d (λ k l. rw (digit-past heard m k h l)))
 
     past-rows : (rows : List ℕ) → length rows ≡ m → counted (m + d) heard ben rows ≡ counted m heard ben rows
     unfolding counted

@@ -3,18 +3,18 @@ use Prim.Native.Nat.{ℕ}
 use mathlib.Core.Bool.{Bool, not, _&&_, cond}
 use mathlib.Core.Path.{_≡_}
 use mathlib.Core.List.{List}
-use lib.Dec.{eqb}
+use lib.Dec.{ltb}
 use lib.ListN.{length, getD}
-use Rattle.laws.specs.Sets.{has, asks, gathered, tabled}
+use Rattle.laws.specs.Sets.{has, asks, tally, tabled}
 use Rattle.lcf.specs.declared.heard.Tables.{Tables}
 
--- the heard hosts that have bit i clear in ben
-unfoldable pub clearers : ℕ → ℕ → List ℕ → ℕ → ℕ
-clearers n heard ben i = gathered (λ h. has heard h && not (asks ben h i)) n
+-- host h is heard and has bit i clear in ben
+abbrev pub clears : ℕ → List ℕ → ℕ → ℕ → Bool
+clears heard ben i h = has heard h && not (asks ben h i)
 
--- initiator i is heard, and no heard host disables it
+-- initiator i is heard, and fewer than two hosts clear its bit
 unfoldable pub present : ℕ → ℕ → List ℕ → ℕ → Bool
-present n heard ben i = has heard i && eqb (clearers n heard ben i) 0
+present n heard ben i = has heard i && ltb (tally (clears heard ben i) n) 2
 
 -- s is the set of those
 abbrev pub Present : ℕ → ℕ → List ℕ → ℕ → Type 0

@@ -7,7 +7,7 @@ use words::holds;
 ghost use mathlib.Core.Path.{_≡_};
 ghost use mathlib.Core.Bool.{cond};
 ghost use Prim.Native.Nat.{_<_, _≤_};
-ghost use lib.Bits.{bitAnd};
+ghost use lib.Bits.{bitAnd, bitOr};
 ghost use lib.ListN.{getD};
 ghost use Rattle.frames.specs.Part.{mostPorts};
 ghost use Rattle.laws.specs.Sets.{has, tabled};
@@ -19,23 +19,39 @@ pub struct Tables {
     pub pre: Table,
 }
 
-// Without those whom host h disables, if it is heard.
-fn enabled(s: Set, heard: Set, ben: Set, h: usize) -> Set
+// The heard hosts whom nobody has cleared so far, and those whom at most one host has.
+pub struct Votes {
+    pub uncleared: Set,
+    pub enabled: Set,
+}
+
+// With the vote of host h, if it is heard.
+fn vote(votes: Votes, heard: Set, ben: Set, h: usize) -> Votes
     requires { ⌜ h < mostPorts ⌝ }
-    ensures { λ r. ⌜ r ≡ cond (has heard h) (bitAnd s ben) s ⌝ }
+    ensures { λ r. ⌜ r ≡ cond (has heard h) (record { uncleared = bitAnd (votes .uncleared) ben; enabled = bitOr (bitAnd (votes .enabled) ben) (votes .uncleared) }) votes ⌝ }
 {
-    if holds(heard, h) { s & ben } else { s }
+    if holds(heard, h) {
+        Votes {
+            uncleared: votes.uncleared & ben,
+            enabled: (votes.enabled & ben) | votes.uncleared,
+        }
+    } else {
+        votes
+    }
 }
 
 fn present(n: usize, heard: Set, ben: Table) -> Set
     requires { ⌜ n ≤ mostPorts ⌝ }
     ensures { λ r. ⌜ Present n heard ben r ⌝ }
 {
-    let mut s = heard;
+    let mut votes = Votes {
+        uncleared: heard,
+        enabled: heard,
+    };
     for h in 0..n {
-        s = enabled(s, heard, ben[h], h);
+        votes = vote(votes, heard, ben[h], h);
     }
-    s
+    votes.enabled
 }
 
 fn row_of(present: Set, row: Set, i: usize) -> Set

@@ -11,7 +11,7 @@ use Rattle.frames.specs.Frame.{formNumber}
 use Rattle.frames.specs.Config.{configOf}
 use Rattle.frames.specs.Grant.{grantFrame}
 use Rattle.frames.specs.Part.{mostPorts, hostNumber}
-use Rattle.lcf.specs.Heard.{clearers, present, counted}
+use Rattle.lcf.specs.Heard.{present, counted}
 use Rattle.lcf.specs.Choice.{choice}
 use Rattle.lcf.specs.Join.{join, joinLive}
 use Rattle.lcf.specs.Planned.{planner, give, planned}
@@ -60,5 +60,5 @@ pub worked : (promise mostPorts (3 ∷ 1 ∷ 2 ∷ 1 ∷ 2 ∷ 3 ∷ 4 ∷ 77 �
       out = 2 ∷ 1 ∷ 1 ∷ 129 ∷ 236 ∷ 2 ∷ 16 ∷ 3 ∷ 145 ∷ 236 ∷ 2 ∷ 34 ∷ 1 ∷ 210 ∷ 89 ∷ 9 ∷ [];
       table = 0 ∷ 2 ∷ 0 ∷ 1 ∷ 0 ∷ 4 ∷ replicate (mostPorts * 2 - 6) 0;
     })
-unfolding ones trailingZeros steps bigEndian numberFrom crcBit crcByte crcFrom intact formNumber configOf grantFrame hostNumber clearers present counted choice join joinLive planner give planned fewest winner serve askers grants offers accepted answer round oneMore distributed advance within start serveMode matched behind wrongLimit dueNumber declined ended slotOnTables said hostsOf lowest grantFor granted refusal slotOnHosts stepped output stateOf stateBytes modeOf stateAfter tableAfter fits run slotWord slotState slotTable slotOutput
+unfolding ones trailingZeros steps bigEndian numberFrom crcBit crcByte crcFrom intact formNumber configOf grantFrame hostNumber present counted choice join joinLive planner give planned fewest winner serve askers grants offers accepted answer round oneMore distributed advance within start serveMode matched behind wrongLimit dueNumber declined ended slotOnTables said hostsOf lowest grantFor granted refusal slotOnHosts stepped output stateOf stateBytes modeOf stateAfter tableAfter fits run slotWord slotState slotTable slotOutput
 worked = (refl, refl)

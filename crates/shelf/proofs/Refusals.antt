@@ -6,7 +6,7 @@ use Prim.Native.Nat.{ℕ, zero, suc, _*_, _≤_}
 use native.Mathlib.Omega.{arith}
 use lib.Dec.{ltb, eqb·suc-zero}
 use lib.ListN.{length}
-use borrow.Author.Tests.{ltb-false}
+use borrow.Author.Tests.{ltb-false, eqb-true, not-false}
 use Rattle.frames.specs.Frame.{differs}
 use Rattle.frames.specs.Config.{configLen}
 use Rattle.frames.specs.Grant.{grantLen}
@@ -20,18 +20,26 @@ pub due-ports : (m : ℕ) (st : State) (slot : ℕ) (mode : Mode) → dueNumber 
 due-ports m st slot mode e = served m st slot mode e .ready .ports
 
 -- none of three numbers is given
-none-given : (number : ℕ) (b c : Bool) → cond (differs number 0) number (cond b 6 (cond c 7 0)) ≡ 0 → (number ≡ 0) × (c ≡ false)
-none-given zero false false e = (refl, refl)
+none-given : (number : ℕ) (b c : Bool) → cond (differs number 0) number (cond b 6 (cond c 7 0)) ≡ 0 → (number ≡ 0) × (b ≡ false) × (c ≡ false)
+none-given zero false false e = (refl, refl, refl)
 none-given zero false true e = absurd (omega arith)
 none-given zero true c e = absurd (omega arith)
 none-given (suc k) b c e = absurd (omega (arith, rw (eqb·suc-zero k) at e))
 
-pub record Taken (m : ℕ) (st : State) (out : List ℕ) : Type 0 where
+pub record Taken (m : ℕ) (st : State) (block out : List ℕ) : Type 0 where
+  pub some-port : 1 ≤ st .ports
   pub ports : st .ports ≤ m
+  pub whole : length block ≡ st .ports * configLen
   pub room : st .ports * grantLen ≤ length out
 
-pub taken : (m : ℕ) (st : State) (slot : ℕ) (mode : Mode) (block out : List ℕ) → refusal m st slot mode block out ≡ 0 → Taken m st out
+pub taken : (m : ℕ) (st : State) (slot : ℕ) (mode : Mode) (block out : List ℕ) → refusal m st slot mode block out ≡ 0 → Taken m st block out
 unfolding refusal
 taken m st slot mode block out e =
-    let (due, room) = none-given (dueNumber m st slot mode) (differs (length block) (st .ports * configLen)) (ltb (length out) (st .ports * grantLen)) e in
-    record { ports = due-ports m st slot mode due; room = ltb-false (length out) (st .ports * grantLen) room }
+    let (due, whole, room) = none-given (dueNumber m st slot mode) (differs (length block) (st .ports * configLen)) (ltb (length out) (st .ports * grantLen)) e in
+    let ready = served m st slot mode due .ready in
+    record {
+      some-port = omega (arith, ready .initiator);
+      ports = ready .ports;
+      whole = eqb-true _ _ (not-false _ whole);
+      room = ltb-false (length out) (st .ports * grantLen) room;
+    }

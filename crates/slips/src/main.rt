@@ -146,12 +146,12 @@ fn rounds_run() {
 }
 
 fn heard() {
-    // An unheard host asks for nothing and has no vote.
-    hear(29, 2, 1, 0x3, 0x11, 0);
-    // A disabled initiator still has its vote.
-    hear(30, 3, 7, 0x763, 0x421, 0);
+    // An unheard host asks for nothing and has no vote: hosts 1 and 2 clear bit 0, and host 2 is unheard.
+    hear(29, 3, 3, 0x667, 0x421, 0);
+    // A disabled initiator still has its vote: 0 and 1 vote against each other, and 2 against both.
+    hear(30, 3, 7, 0x465, 0x421, 0);
     // It plans nothing.
-    hear(31, 2, 3, 0x23, 0, 0x22);
+    hear(31, 3, 7, 0x667, 0, 0x022);
 }
 
 fn slot_numbers() {
@@ -197,6 +197,11 @@ fn limits() {
     rounds(48, 3, 0, 0, 16, 0x1);
 }
 
+fn one_vote() {
+    // One host alone disables nobody, whatever it clears.
+    hear(49, 3, 7, 0x770, 0x421, 0);
+}
+
 fn main() {
     planned();
     central();
@@ -208,4 +213,5 @@ fn main() {
     slot_numbers();
     offsets();
     limits();
+    one_vote();
 }

@@ -1,0 +1,59 @@
+-- What a tally says: none, at most one, and no more than were looked at.
+use mathlib.Core.Path.{_≡_, refl, sym, _∙_}
+use mathlib.Core.Logic.{_↔_, ⊎-elim}
+use mathlib.Core.Bool.{Bool, true, false, cond, true≢false}
+use Prim.Native.Nat.{ℕ, zero, suc, _≤_, _<_}
+use native.Mathlib.Nat.{le-of-suc-le-suc, eq-or-lt-of-le, not-suc-le-zero}
+use native.Mathlib.Omega.{arith}
+use Rattle.laws.specs.Steps.{steps}
+use Rattle.laws.specs.Sets.{tally}
+use Rattle.laws.proofs.Tests.{refuted}
+
+module _ (p : ℕ → Bool) where
+  pub tally-most : (n : ℕ) → tally p n ≤ n
+  unfolding steps
+  tally-most zero = omega arith
+  tally-most (suc n) = go (p n) (tally-most n)
+    where
+      go : (b : Bool) → tally p n ≤ n → cond b (suc (tally p n)) (tally p n) ≤ suc n
+      go true h = omega arith
+      go false h = omega arith
+
+  tally-none : (n : ℕ) → tally p n ≡ 0 → (h : ℕ) → h < n → p h ≡ false
+  unfolding steps
+  tally-none zero e h l = absurd (not-suc-le-zero l)
+  tally-none (suc n) e h l = go (p n) refl e (tally-none n)
+    where
+      go : (b : Bool) → p n ≡ b → cond b (suc (tally p n)) (tally p n) ≡ 0 → (tally p n ≡ 0 → (h : ℕ) → h < n → p h ≡ false) → p h ≡ false
+      go true q e before = absurd (omega arith)
+      go false q e before = ⊎-elim (λ s. rw s q) (before e h) (eq-or-lt-of-le (le-of-suc-le-suc l))
+
+  none-tally : (n : ℕ) → ((h : ℕ) → h < n → p h ≡ true → ⊥) → tally p n ≡ 0
+  unfolding steps
+  none-tally zero f = refl
+  none-tally (suc n) f = rw (refuted (p n) (f n (omega arith))) (none-tally n (λ h l. f h (omega arith)))
+
+  -- fewer than two have p: any two that have it are one
+  pub tally-few : (n : ℕ) → (tally p n < 2) ↔ ((g h : ℕ) → g < n → h < n → p g ≡ true → p h ≡ true → g ≡ h)
+  unfolding steps
+  tally-few zero = (λ e g h l. absurd (not-suc-le-zero l), λ f. omega arith)
+  tally-few (suc n) = go (p n) refl (tally-few n)
+    where
+      Alone : ℕ → Type 0
+      Alone n = (g h : ℕ) → g < n → h < n → p g ≡ true → p h ≡ true → g ≡ h
+
+      last : (k : ℕ) → k < suc n → p k ≡ true → ((j : ℕ) → j < n → p j ≡ false) → k ≡ n
+      last k l e none = ⊎-elim (λ s. s) (λ s. absurd (true≢false (sym e ∙ none k s))) (eq-or-lt-of-le (le-of-suc-le-suc l))
+
+      earlier : (k : ℕ) → k < suc n → p k ≡ true → p n ≡ false → k < n
+      earlier k l e q = ⊎-elim (λ s. absurd (true≢false (sym e ∙ rw s q))) (λ s. s) (eq-or-lt-of-le (le-of-suc-le-suc l))
+
+      go : (b : Bool) → p n ≡ b → ((tally p n < 2) ↔ Alone n) → (cond b (suc (tally p n)) (tally p n) < 2) ↔ Alone (suc n)
+      go true q r = (
+        λ e g h gl hl a b. let none = tally-none n (omega arith) in last g gl a none ∙ sym (last h hl b none),
+        λ f. let e = none-tally n (λ h l a. let s : h ≡ n = f h n (omega arith) (omega arith) a q in omega arith) in omega arith,
+      )
+      go false q r = (
+        λ e g h gl hl a b. r .0 e g h (earlier g gl a q) (earlier h hl b q) a b,
+        λ f. r .1 (λ g h gl hl. f g h (omega arith) (omega arith)),
+      )
