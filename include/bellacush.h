@@ -95,7 +95,10 @@ enum bellacush_number {
  * mode   BELLACUSH_CENTRAL, or else the round limit of the distributed form.
  * block  11 n bytes: the configuration frame of host h from byte 11 h; a missing frame is
  *        eleven zeros. A host is heard if its frame is correct. An unheard host asks for
- *        nothing, plans nothing and votes on nothing; it never declines the slot.
+ *        nothing, plans nothing and votes on nothing; it never declines the slot. A host is
+ *        enabled unless two different heard hosts have its bit clear in ben; if not, it asks
+ *        for nothing and plans nothing, and its vote still counts. So one host by itself,
+ *        whatever it sends, disables nobody.
  * link   bit i is handed on as linkErr of host i.
  * out    at least 5 n bytes: gets the grant frame of host i from byte 5 i. It names the lowest
  *        target held, and has CRCErr set if the host is unheard. Bytes from 5 n on are not
@@ -216,7 +219,7 @@ uint32_t bellacush_read_grant(const uint8_t *frame, size_t frame_len,
  * Writes a configuration frame to the first 11 bytes of out and returns BELLACUSH_DONE; bytes
  * beyond are not touched. Declines with 7 if out is shorter, and then out keeps every byte.
  * req: targets asked for; pre: targets planned ahead; ben: bit i clear votes to disable
- * initiator i; qen: carried and unused.
+ * initiator i, which takes the votes of two heard hosts; qen: carried and unused.
  */
 uint32_t bellacush_write_config(uint16_t req, uint16_t pre, uint16_t ben, uint16_t qen,
                                 uint8_t *out, size_t out_len);

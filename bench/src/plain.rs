@@ -135,12 +135,14 @@ fn refusal(at: Place, due: u32, slot: u32, mode: u32, block_len: usize, out_len:
 fn begin(at: Place, block: &[u8]) -> (Work, u16) {
     let below = u16::MAX >> (MOST_PORTS - at.n);
     let (mut req, mut pre) = ([0; MOST_PORTS], [0; MOST_PORTS]);
-    let (mut enabled, mut quiet) = (below, 0);
+    let (mut uncleared, mut enabled, mut quiet) = (below, below, 0);
     for (host, frame) in block.chunks_exact(CONFIG_LEN).enumerate() {
         if config_is_right(frame) {
             req[host] = u16::from_be_bytes([frame[1], frame[2]]) & below;
             pre[host] = u16::from_be_bytes([frame[3], frame[4]]) & below;
-            enabled &= u16::from_be_bytes([frame[5], frame[6]]);
+            let ben = u16::from_be_bytes([frame[5], frame[6]]);
+            enabled = enabled & ben | uncleared;
+            uncleared &= ben;
         } else {
             quiet |= 1 << host;
         }

@@ -212,7 +212,8 @@ static void asked_sets_of_a_block(void)
     static const uint8_t wanted[6] = {0, 7, 0, 5, 0, 0};
     struct lent l = asking(3, req), before;
 
-    /* host 2 votes against itself; bits at or above n are nothing */
+    /* hosts 1 and 2 vote against host 2; bits at or above n are nothing */
+    CHECK(bellacush_write_config(5, 0, 0xFFFB, 0, l.block + 11, 11) == BELLACUSH_DONE);
     CHECK(bellacush_write_config(6, 0, 0xFFFB, 0, l.block + 22, 11) == BELLACUSH_DONE);
     before = l;
     CHECK(bellacush_asked(3, l.block, 33, l.table, 31) == BELLACUSH_BAD_LEN);

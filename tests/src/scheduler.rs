@@ -64,15 +64,11 @@ fn bit(word: u16, at: usize) -> bool {
     word & (1 << at) != 0
 }
 
-/// Who is enabled: nobody heard votes against it.
+/// Who is enabled: fewer than two of the heard hosts vote against it.
 fn enabled(hosts: &[Option<Config>]) -> Vec<bool> {
+    let heard = || hosts.iter().flatten();
     (0..hosts.len())
-        .map(|initiator| {
-            hosts
-                .iter()
-                .flatten()
-                .all(|voter| bit(voter.ben, initiator))
-        })
+        .map(|initiator| heard().filter(|voter| !bit(voter.ben, initiator)).count() < 2)
         .collect()
 }
 

@@ -56,10 +56,13 @@ fn a_planner_asks_too_and_a_disabled_host_does_not() {
     let mut hosts = vec![Config::asking(0b1011); 4];
     hosts[1].pre = 0b0010;
     hosts[3].ben = 0b1011;
+    assert_eq!(asked_sets(&hosts)[..4], [0b1011; 4]);
+    hosts[2].ben = 0b1011;
     let wanted = [0b1011, 0b1011, 0, 0b1011];
     assert_eq!(asked_sets(&hosts)[..4], wanted);
     hosts[0].req = 0;
-    hosts[2].ben = 0b0111;
+    hosts[1].ben = 0b0111;
+    hosts[2].ben = 0b0011;
     assert_eq!(asked_sets(&hosts)[..4], [0, 0b1011, 0, 0]);
 }
 
@@ -67,6 +70,7 @@ fn a_planner_asks_too_and_a_disabled_host_does_not() {
 fn an_unheard_host_neither_asks_nor_votes() {
     let mut random = Random::of_test("an_unheard_host_neither_asks_nor_votes");
     let mut hosts = vec![Config::asking(0b111); 3];
+    hosts[1].ben = 0;
     hosts[2].ben = 0;
     assert_eq!(asked_sets(&hosts)[..3], [0, 0, 0]);
     for _ in 0..cases(2_000) {

@@ -329,7 +329,7 @@ fn frame_of_another_type_leaves_its_host_unheard_though_its_check_is_right() {
 #[test]
 fn disabled_host_is_not_told_that_it_is_unheard() {
     let mut hosts = full(2);
-    hosts[1].ben = 0b10;
+    hosts.iter_mut().for_each(|host| host.ben = 0b10);
     let after = expect_served(&Slot::of_hosts(State::fresh(2, 9), CENTRAL, &hosts));
     assert_eq!((after.line().as_str(), after.out[2]), ("0:- 1:0", 0));
 }

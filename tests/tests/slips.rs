@@ -331,37 +331,90 @@ fn planned_targets_still_counted_as_choices() {
 
 // Who is heard and enabled
 
+/// Initiator 1 asks for target 2 and plans target 3; these hosts vote against it.
+fn against_host_1(mode: u32, voters: &[usize]) -> After {
+    let mut hosts = asking(&[&[2], &[2], &[], &[]]);
+    hosts[1].pre = set(&[3]);
+    for &voter in voters {
+        hosts[voter].ben = !set(&[1]);
+    }
+    slot(4, (1, 2), mode, &hosts)
+}
+
 #[test]
-fn one_vote_of_any_heard_host_disables() {
+fn one_vote_disabling() {
     for voter in 0..4 {
-        for mode in [CENTRAL, 1] {
-            let mut hosts = asking(&[&[2], &[2], &[], &[]]);
-            hosts[1].pre = set(&[3]);
-            hosts[voter].ben = !set(&[1]);
-            expect(
-                slot(4, (1, 2), mode, &hosts),
-                "0:2 1:- 2:- 3:-",
-                mode.min(1),
-            );
-        }
+        expect(against_host_1(CENTRAL, &[voter]), "0:2 1:3 2:- 3:-", 0);
+        expect(against_host_1(1, &[voter]), "0:2 1:3 2:- 3:-", 1);
+    }
+}
+
+#[test]
+fn two_votes_of_heard_hosts_not_disabling() {
+    for (one, other) in [(0, 1), (0, 2), (0, 3), (1, 2), (1, 3), (2, 3)] {
+        expect(against_host_1(CENTRAL, &[one, other]), "0:2 1:- 2:- 3:-", 0);
+        expect(against_host_1(1, &[one, other]), "0:2 1:- 2:- 3:-", 1);
     }
 }
 
 #[test]
 fn vote_of_a_disabled_host_counting_for_nothing() {
+    // hosts 0 and 1 vote against each other, and host 2 against both
     let mut hosts = asking(&[&[0], &[1], &[2]]);
     hosts[0].ben = !set(&[1]);
     hosts[1].ben = !set(&[0]);
+    hosts[2].ben = !set(&[0, 1]);
     expect(slot(3, (0, 0), CENTRAL, &hosts), "0:- 1:- 2:2", 0);
 }
 
 #[test]
 fn vote_of_an_unheard_host_counting() {
-    let mut hosts = asking(&[&[0], &[1]]);
+    let mut hosts = asking(&[&[0], &[1], &[2]]);
     hosts[1].ben = 0;
-    let mut call = Slot::of_hosts(State::fresh(2, 9), CENTRAL, &hosts);
-    call.block[21] ^= 1;
-    assert_eq!(call.agreed().line(), "0:0 1:-");
+    hosts[2].ben = 0;
+    let mut call = Slot::of_hosts(State::fresh(3, 9), CENTRAL, &hosts);
+    call.block[32] ^= 1;
+    assert_eq!(call.agreed().line(), "0:0 1:1 2:-");
+}
+
+/// A failing board clears all of ben: what every host gets is what it would get without that.
+#[test]
+fn one_bad_host_silencing_the_shelf() {
+    for n in 1..=16 {
+        for bad in 0..n {
+            for mode in [CENTRAL, 4] {
+                let mut hosts = vec![Config::asking(0xFFFF); n];
+                let sound = slot(n, (0, 0), mode, &hosts);
+                hosts[bad].ben = 0;
+                let after = slot(n, (0, 0), mode, &hosts);
+                assert_eq!((after.sets(), after.out), (sound.sets(), sound.out));
+            }
+        }
+    }
+}
+
+#[test]
+fn two_bad_hosts_stopping_others_than_both_clear() {
+    for n in 2..=16 {
+        let (half, all) = (!0u16 >> (16 - n / 2), !0u16 >> (16 - n));
+        let mut hosts = vec![Config::asking(0xFFFF); n];
+        hosts[0].ben = 0;
+        hosts[n - 1].ben = !half;
+        let after = slot(n, (0, 0), CENTRAL, &hosts);
+        for host in 0..n {
+            assert_eq!(after.sets()[host] == 0, half >> host & 1 == 1);
+        }
+        hosts[n - 1].ben = !all;
+        let after = slot(n, (0, 0), CENTRAL, &hosts);
+        assert!(after.sets().iter().all(|&held| held == 0));
+    }
+}
+
+#[test]
+fn one_port_being_disabled() {
+    let mut hosts = asking(&[&[0]]);
+    hosts[0].ben = 0;
+    expect(slot(1, (0, 0), CENTRAL, &hosts), "0:0", 0);
 }
 
 #[test]

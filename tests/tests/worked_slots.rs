@@ -58,11 +58,11 @@ fn f_keeps_a_planned_multicast() {
 }
 
 #[test]
-fn g_disables_an_initiator_by_one_vote() {
+fn g_disables_nobody_by_one_vote() {
     let mut hosts = asking(&[&[0], &[0]]);
     hosts[1].ben = !1;
     let after = slot(2, (0, 0), CENTRAL, &hosts);
-    assert_eq!(after.line(), "0:- 1:0");
+    assert_eq!(after.line(), "0:0 1:-");
 }
 
 #[test]
