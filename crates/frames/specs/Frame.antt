@@ -3,7 +3,8 @@ use Prim.Native.Nat.{ℕ, _-_}
 use mathlib.Core.Bool.{Bool, not, cond}
 use mathlib.Core.List.{List, _∷_, _++_}
 use lib.Dec.{eqb, ltb}
-use lib.ListN.{length, getD, take, drop}
+use lib.ListN.{length, getD, drop}
+use Rattle.laws.specs.Parts.{part}
 use Rattle.words.specs.Check.{checked, intact}
 use Rattle.frames.specs.declared.frame.Form.{Form}
 use Rattle.frames.specs.declared.frame.Form.the-variants.{Sound, WrongLength, WrongType, WrongCheck}
@@ -16,7 +17,7 @@ sealed type body = checked (type ∷ body)
 
 -- what stands between type and check in a frame of len bytes
 abbrev pub bodyOf : ℕ → List ℕ → List ℕ
-bodyOf len s = take (len - 3) (drop 1 s)
+bodyOf len s = part 1 (len - 3) s
 
 -- is s a frame of len bytes and of that type: 0, or the first of 8 to 10 that applies
 unfoldable pub formNumber : ℕ → ℕ → List ℕ → ℕ

@@ -3,7 +3,8 @@ use Prim.Native.Nat.{ℕ, _*_}
 use mathlib.Core.Bool.{_||_, cond}
 use mathlib.Core.List.{List, []}
 use lib.Dec.{eqb, ltb, leb}
-use lib.ListN.{length, take, drop}
+use lib.ListN.{length}
+use Rattle.laws.specs.Parts.{part}
 use Rattle.frames.specs.Frame.{differs}
 
 -- the greatest port count
@@ -22,4 +23,4 @@ abbrev pub hostStart : ℕ → ℕ → ℕ → ℕ → List ℕ → ℕ
 hostStart m len n h block = cond (eqb (hostNumber m len n h block) 0) (h * len) 0
 
 abbrev pub hostPart : ℕ → ℕ → ℕ → ℕ → List ℕ → List ℕ
-hostPart m len n h block = cond (eqb (hostNumber m len n h block) 0) (take len (drop (h * len) block)) []
+hostPart m len n h block = cond (eqb (hostNumber m len n h block) 0) (part (h * len) len block) []

@@ -1,5 +1,6 @@
 pub mod Branches
 pub mod Bytes
+pub mod Every
 pub mod Loops
 pub mod Members
 pub mod Parts

@@ -1,16 +1,22 @@
--- Parts of one width w, one after the other: each stands in its own place, and is written there.
-use mathlib.Core.Path.{_≡_, sym, ap, _∙_}
+-- A part is told by any front that holds it. Parts of one width w, one after the other: each stands in its own place, and is written there.
+use mathlib.Core.Path.{_≡_, refl, sym, ap, _∙_}
 use mathlib.Core.Logic.{⊎-elim}
-use mathlib.Core.List.{List, _++_, append-assoc}
+use mathlib.Core.List.{List, [], _∷_, _++_, append-assoc}
 use Prim.Native.Nat.{ℕ, zero, suc, _+_, _*_, _-_, _≤_, _<_}
 use native.Mathlib.Nat.{le-refl, le-of-eq, le-of-suc-le-suc, not-suc-le-zero, eq-or-lt-of-le, mul-le-mul-right, zero-mul, suc-mul}
 use native.Mathlib.Numerals.{add-one}
 use native.Mathlib.Omega.{arith}
 use lib.ListN.{length, take, drop, take-append-drop, length-append, length-drop}
-use lib.Seq.{take-all, take-at, drop-at, drop-drop, take-append-le, drop-append-le}
+use lib.Seq.{take-all, take-take, take-at, drop-at, drop-drop, take-append-le, drop-append-le}
 use borrow.Rule.Slice.PartMut.{midOf, postOf, putMid, mid-len}
 use Rattle.laws.specs.Steps.{steps}
-use Rattle.laws.specs.Parts.{parts}
+use Rattle.laws.specs.Parts.{part, parts}
+
+pub part-own : (at w e : ℕ) (s : List ℕ) → at + w ≤ e → part at w (take e s) ≡ part at w s
+part-own zero w e s h = take-take w e s (omega arith)
+part-own (suc at) w zero s h = absurd (omega arith)
+part-own (suc at) w (suc e) [] h = refl
+part-own (suc at) w (suc e) (b ∷ s) h = part-own at w e s (omega arith)
 
 module _ (f : ℕ → List ℕ) (w : ℕ) (each : (i : ℕ) → length (f i) ≡ w) where
   pub length-parts : (n : ℕ) → length (parts f n) ≡ n * w

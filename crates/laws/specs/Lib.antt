@@ -1,4 +1,5 @@
 pub mod Steps
 pub mod Sets
+pub mod Tests
 pub mod Parts
 pub mod Bytes

@@ -3,10 +3,14 @@ use mathlib.Core.Path.{_≡_}
 use Prim.Native.Nat.{ℕ}
 use Rattle.laws.proofs.Unique.{the-result}
 use Rattle.measured.proofs.measured_crc.Reads as crc
+use Rattle.measured.proofs.measured_long_crc.Reads as long-crc
 use Rattle.measured.proofs.measured_checks.Reads as checks
 
 pub crc-once : (κs a : _) (r s : ℕ) (x y : _) → crc.Learnt κs a r x → crc.Learnt κs a s y → r ≡ s
 crc-once κs a r s x y p q = the-result p q
+
+pub long-crc-once : (κs a : _) (r s : ℕ) (x y : _) → long-crc.Learnt κs a r x → long-crc.Learnt κs a s y → r ≡ s
+long-crc-once κs a r s x y p q = the-result p q
 
 pub checks-once : (κs a : _) (r s : ℕ) (x y : _) → checks.Learnt κs a r x → checks.Learnt κs a s y → r ≡ s
 checks-once κs a r s x y p q = the-result p q

@@ -1,4 +1,4 @@
-// What the benchmark calls beside the C form: the checks alone.
+// What the tests and the benchmark call beside the C form: the checks alone.
 ghost use mathlib.Core.Path.{_≡_};
 ghost use lib.ListN.{length};
 ghost use Rattle.words.specs.Check.{crcOf};
@@ -9,6 +9,13 @@ pub extern "C" fn measured_crc(bytes: &[u8]) -> u16
     ensures { λ r. ⌜ r ≡ crcOf (now (bytes .entry)) ⌝ }
 {
     words::crc(bytes)
+}
+
+#[no_mangle]
+pub extern "C" fn measured_long_crc(bytes: &[u8]) -> u16
+    ensures { λ r. ⌜ r ≡ crcOf (now (bytes .entry)) ⌝ }
+{
+    long_check::long_crc(bytes)
 }
 
 fn both(part: &[u8]) -> u16

@@ -35,7 +35,7 @@ bit-small c = either (ltb c 0x8000)
     either true = shifted
     either false = xor-lt 16 (c * 2 % 0x10000) 0x1021 shifted (lit< tt)
 
-from-small : (s : List ℕ) (c : ℕ) → c < 0x10000 → crcFrom c s < 0x10000
+pub from-small : (s : List ℕ) (c : ℕ) → c < 0x10000 → crcFrom c s < 0x10000
 unfolding crcFrom crcByte steps
 from-small [] c h = h
 from-small (b ∷ s) c h = from-small s (crcByte c b) (bit-small _)

@@ -1,3 +1,4 @@
 pub mod BytesAt
 pub mod CheckLaws
+pub mod LastTwo
 pub mod Unique

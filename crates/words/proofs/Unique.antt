@@ -7,6 +7,7 @@ use Prim.Native.Nat.{ℕ}
 use denote.Ref.{now}
 use Rattle.laws.proofs.Unique.{the-result}
 use Rattle.words.proofs.bits.holds.Reads as holds
+use Rattle.words.proofs.check.crc_bit.Reads as crc-bit
 use Rattle.words.proofs.check.crc.Reads as crc
 use Rattle.words.proofs.check.seal.Reads as seal
 use Rattle.words.proofs.check.intact.Reads as intact
@@ -29,6 +30,9 @@ two-bytes-once κs a r s x y p q = the-result p q
 
 pub four-bytes-once : (κs a : _) (r s : List ℕ) (x y : _) → four-bytes.Learnt κs a r x → four-bytes.Learnt κs a s y → r ≡ s
 four-bytes-once κs a r s x y p q = the-result p q
+
+pub crc-bit-once : (κs a : _) (r s : ℕ) (x y : _) → crc-bit.Learnt κs a r x → crc-bit.Learnt κs a s y → r ≡ s
+crc-bit-once κs a r s x y p q = the-result p q
 
 pub crc-once : (κs a : _) (r s : ℕ) (x y : _) → crc.Learnt κs a r x → crc.Learnt κs a s y → r ≡ s
 crc-once κs a r s x y p q = the-result p q

@@ -4,7 +4,7 @@ ghost use Rattle.words.specs.Check.{crcBit, crcByte, crcOf, sealed, inta
 use crate::numbers::of_two;
 use crate::numbers::two_bytes;
 
-fn crc_bit(c: u16) -> u16
+pub fn crc_bit(c: u16) -> u16
     ensures { λ r. ⌜ r ≡ crcBit c ⌝ }
 {
     if c < 0x8000 {

@@ -5,6 +5,7 @@ mod numbers;
 
 pub use bits::holds;
 pub use check::crc;
+pub use check::crc_bit;
 pub use check::intact;
 pub use check::seal;
 pub use numbers::four_bytes;

@@ -1,21 +1,13 @@
 -- `words::check::intact` meets its contract.
-use mathlib.Core.Path.{_≡_, sym, _∙_}
-use mathlib.Core.List.{List, [], _∷_}
-use Prim.Native.Nat.{ℕ, _+_, _-_, _≤_}
+use mathlib.Core.Path.{sym}
 use native.Mathlib.Omega.{arith}
 use borrow.Author.Needs.{needs}
 use borrow.Author.Tests.{le-leb, lt-leb}
-use lib.ListN.{length, getD, length-drop}
-use lib.Seq.{length-take-le, take-all}
-use Rattle.words.specs.Check.{lastTwo, intact}
-use Rattle.words.proofs.BytesAt.{two-at}
+use lib.Seq.{length-take-le}
+use Rattle.words.specs.Check.{intact}
+use Rattle.words.proofs.LastTwo.{last-two}
 use Rattle.words.proofs.check.intact.Statement.{statement}
 use Rattle.words.proofs.check.intact.Tie as tie
-
-last-two : (s : List ℕ) → 2 ≤ length s → getD s (length s - 2) 0 ∷ getD s (length s - 2 + 1) 0 ∷ [] ≡ lastTwo s
-last-two s h =
-    let at = length s - 2 in
-    sym (two-at s at (omega arith)) ∙ take-all 2 (lastTwo s) (simp length-drop (omega arith))
 
 slice-aggregate-crc : tie.Need-slice-aggregate-crc
 slice-aggregate-crc c = sym (length-take-le _ _ (omega arith))

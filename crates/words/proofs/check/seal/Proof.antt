@@ -1,23 +1,15 @@
 -- `words::check::seal` meets its contract.
-use mathlib.Core.Path.{_≡_, sym, _∙_}
-use mathlib.Core.List.{List, [], _∷_, _++_, append-nil}
-use Prim.Native.Nat.{ℕ, _+_, _-_, _≤_}
-use native.Mathlib.Numerals.{add-one}
+use mathlib.Core.Path.{sym}
 use native.Mathlib.Omega.{arith}
 use borrow.Author.Needs.{needs}
 use borrow.Author.Tests.{le-leb, lt-leb}
-use lib.ListN.{length, set, length-set, drop-of-length-le}
-use lib.Seq.{length-take-le, sets-eq}
+use lib.ListN.{length-set}
+use lib.Seq.{length-take-le}
 use Rattle.laws.specs.Bytes.{bigEndian}
-use Rattle.words.specs.Check.{front, sealed}
+use Rattle.words.specs.Check.{sealed}
+use Rattle.words.proofs.LastTwo.{last-set}
 use Rattle.words.proofs.check.seal.Statement.{statement}
 use Rattle.words.proofs.check.seal.Tie as tie
-
-last-set : (s : List ℕ) (a b : ℕ) → 2 ≤ length s → set (set s (length s - 2) a) (length s - 2 + 1) b ≡ front s ++ (a ∷ b ∷ [])
-last-set s a b h =
-    let at = length s - 2 in
-    let end : length s ≤ at + 2 = omega arith in
-    rw add-one (sets-eq (a ∷ b ∷ []) s at (omega arith) ∙ rw (drop-of-length-le s end, append-nil))
 
 slice-aggregate-crc : tie.Need-slice-aggregate-crc
 slice-aggregate-crc c = sym (length-take-le _ _ (omega arith))

@@ -1,0 +1,4 @@
+pub mod Linear
+pub mod Filling
+pub mod Several
+pub mod Unique
