@@ -1,0 +1,4 @@
+pub mod BodyLaws
+pub mod ContentsLaws
+pub mod ContentsOwn
+pub mod Unique

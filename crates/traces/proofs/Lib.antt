@@ -1,0 +1,4 @@
+pub mod TraceLaws
+pub mod Own
+pub mod Cases
+pub mod Unique
