@@ -1,0 +1,1 @@
+// What calls promise of something lent, which they fill or write to: definitions and laws.

@@ -1,0 +1,10 @@
+pub mod RoundTrips
+pub mod ReadsBack
+pub mod WritesBack
+pub mod SealedBodies
+pub mod Fitting
+pub mod Joining
+pub mod Places
+pub mod Starts
+pub mod Unique
+pub mod Written

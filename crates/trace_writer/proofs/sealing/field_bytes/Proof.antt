@@ -1,0 +1,13 @@
+-- `trace_writer::sealing::field_bytes` meets its contract.
+use mathlib.Core.Path.{refl}
+use borrow.Author.Needs.{needs}
+use Rattle.laws.specs.Bytes.{bigEndian}
+use Rattle.trace_writer.proofs.sealing.field_bytes.Statement.{statement}
+use Rattle.trace_writer.proofs.sealing.field_bytes.Tie as tie
+
+returns : tie.Need-returns
+unfolding bigEndian
+returns c = refl
+
+pub field-bytes-spec : {M : Type 1} → statement M
+field-bytes-spec = tie.close (tie.spec (λ c. search needs) (λ c. search needs) (λ c. search needs) returns)

@@ -1,0 +1,3 @@
+pub mod Sealing
+pub mod Writer
+pub mod Parts
