@@ -2,15 +2,18 @@
 use mathlib.Core.Path.{_≡_, refl, sym, ap, _∙_}
 use mathlib.Core.Bool.{false}
 use mathlib.Core.List.{List, _++_}
-use Prim.Native.Nat.{ℕ, _*_}
+use Prim.Native.Nat.{ℕ}
 use lib.ListN.{length, take, drop}
 use borrow.Author.Tests.{eq-eqb, ne-eqb}
-use Rattle.laws.specs.Bytes.{bigEndian, row}
+use Rattle.laws.specs.Bytes.{bigEndian}
+use Rattle.lcf.specs.Modes.{modeOf}
 use Rattle.lcf.specs.declared.state.State.{State}
 use Rattle.lcf.specs.declared.state.Mode.{Mode}
 use Rattle.lcf.specs.declared.work.Stepped.{Stepped}
+use Rattle.table_bytes.specs.Table.{tableLen, tablePut}
+use Rattle.table_bytes.proofs.Fits.{table-filled}
 use Rattle.shelf.specs.Step.{stepped, output}
-use Rattle.bellacush.specs.Slot.{stateLen, stateOf, stateBytes, modeOf, wordOf, stateAfter, tableAfter, fits, run, slotWord, slotState, slotTable, slotOutput}
+use Rattle.bellacush.specs.Slot.{stateLen, stateOf, stateBytes, wordOf, stateAfter, tableAfter, fits, run, slotWord, slotState, slotTable, slotOutput}
 use Rattle.bellacush.proofs.Parts.{copied}
 
 -- what is lent, after a slot that was declined and after one that was served
@@ -22,11 +25,11 @@ pub length-state : (st : State) → length (stateBytes st) ≡ stateLen
 unfolding stateBytes bigEndian
 length-state st = refl
 
-pub stored : (r : Stepped) (state table bytes last lastly : List ℕ) → r .answer .number ≡ 0 → length state ≡ stateLen → bytes ≡ stateBytes (r .state)
-    → last ≡ take (length bytes) bytes ++ drop (length bytes) state → lastly ≡ row 2 (r .answer .sets) → (last ≡ stateAfter r state) × (lastly ≡ tableAfter r table)
+pub stored : (m : ℕ) (r : Stepped) (state table bytes last lastly : List ℕ) → r .answer .number ≡ 0 → length state ≡ stateLen → length table ≡ tableLen m → length (r .answer .sets) ≡ m → bytes ≡ stateBytes (r .state)
+    → last ≡ take (length bytes) bytes ++ drop (length bytes) state → lastly ≡ tablePut m (r .answer .sets) table → (last ≡ stateAfter r state) × (lastly ≡ tableAfter r table)
 unfolding stateAfter tableAfter
-stored r state table bytes last lastly none seven are wrote put =
-    rw (eq-eqb _ 0 none) (copied bytes state last (seven ∙ sym (ap length are ∙ length-state (r .state))) wrote ∙ are, put)
+stored m r state table bytes last lastly none seven long rows are wrote put =
+    rw (eq-eqb _ 0 none) (copied bytes state last (seven ∙ sym (ap length are ∙ length-state (r .state))) wrote ∙ are, put ∙ table-filled m table long (r .answer .sets) rows)
 
 module _ (m : ℕ) (state : List ℕ) (slot mode : ℕ) (block : List ℕ) (link : ℕ) (out table : List ℕ) where
   -- the promise of a call that returns a word and leaves these bytes
@@ -41,11 +44,11 @@ module _ (m : ℕ) (state : List ℕ) (slot mode : ℕ) (block : List ℕ) (link
   unfolding fits
   wrong-state other = unfit (rw (ne-eqb _ _ other))
 
-  pub wrong-table : length state ≡ stateLen → (length table ≡ m * 2 → ⊥) → Left 8 state table out
+  pub wrong-table : length state ≡ stateLen → (length table ≡ tableLen m → ⊥) → Left 8 state table out
   unfolding fits
   wrong-table same other = unfit (rw (eq-eqb _ _ same, ne-eqb _ _ other))
 
-  pub ran : (st : State) (md : Mode) (r : Stepped) (o s t : List ℕ) (word : ℕ) → length state ≡ stateLen → length table ≡ m * 2 → st ≡ stateOf state → md ≡ modeOf mode
+  pub ran : (st : State) (md : Mode) (r : Stepped) (o s t : List ℕ) (word : ℕ) → length state ≡ stateLen → length table ≡ tableLen m → st ≡ stateOf state → md ≡ modeOf mode
       → (r ≡ stepped m st slot md block out) × (o ≡ output m st slot md block link out) → (s ≡ stateAfter r state) × (t ≡ tableAfter r table) → word ≡ wordOf (r .answer)
       → Left word s t o
   unfolding slotWord slotState slotTable slotOutput fits run

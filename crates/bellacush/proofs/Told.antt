@@ -5,13 +5,14 @@ use Prim.Native.Nat.{ℕ}
 use lib.ListN.{replicate}
 use Rattle.laws.specs.Steps.{steps}
 use Rattle.laws.specs.Bytes.{numberFrom}
+use Rattle.lent.specs.Filled.{fittedNumber, filledAfter}
 use Rattle.lcf.specs.Slot.{within}
 use Rattle.ledger.specs.Counts.{raised}
 use Rattle.ledger.specs.Events.{meet, less, happened}
 use Rattle.ledger.specs.Ledger.{figuresOf, shown, high, over, refusal, number, next}
 use Rattle.ledger.specs.Lent.{wordsLen, ledgerOf, wordsOf, lentNumber, lentFeed, lentShown}
-use Rattle.bellacush.specs.Lent.{fittedNumber, filledAfter}
-use Rattle.bellacush.specs.Ledger.{tableOf, tablesFit, feedWords, figuresAfter}
+use Rattle.table_bytes.specs.Table.{tableOf}
+use Rattle.bellacush.specs.Ledger.{tablesFit, feedWords, figuresAfter}
 
 -- (0, 1) and (1, 0) are asked and wait; then (0, 1) is connected, (1, 0) is not asked again, and (1, 1) is asked and waits
 unfoldable pub fed : List ℕ

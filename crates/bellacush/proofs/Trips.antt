@@ -1,19 +1,14 @@
--- What the C form writes reads back: a state's bytes are that state again, a table's bytes that table, and the number and the rounds of a word
--- come apart.
-use mathlib.Core.Path.{_≡_, _∙_}
+-- What the C form writes reads back: a state's bytes are that state again, and the number and the rounds of a word come apart.
+use mathlib.Core.Path.{_≡_}
 use mathlib.Core.List.{List}
 use Prim.Native.Nat.{ℕ, _/_, _%_, _^_, _<_}
 use native.Mathlib.Nat.{mod-eq-of-lt}
 use native.Mathlib.Omega.{arith}
-use lib.ListN.{length, getD, drop}
-use lib.Seq.{ext-getD}
-use Rattle.laws.specs.Bytes.{Bytes, bigEndian, row, field}
-use Rattle.laws.specs.Sets.{tabled}
-use Rattle.laws.proofs.Rows.{length-tabled, row-tabled}
-use Rattle.laws.proofs.Bytes.{number-big, number-small, bytes-drop, field-row}
+use lib.ListN.{drop}
+use Rattle.laws.specs.Bytes.{Bytes, bigEndian}
+use Rattle.laws.proofs.Bytes.{number-big, number-small, bytes-drop}
 use Rattle.lcf.specs.declared.state.State.{State}
 use Rattle.lcf.specs.declared.work.Answer.{Answer}
-use Rattle.bellacush.specs.Ledger.{tableOf}
 use Rattle.bellacush.specs.State.{Fits}
 use Rattle.bellacush.specs.Slot.{stateOf, stateBytes, wordOf}
 
@@ -37,14 +32,3 @@ module _ (a : Answer) (small : a .number < 256) where
 
   pub word-rounds : wordOf a / 256 ≡ a .rounds
   word-rounds = omega arith
-
--- The sets that a call wrote are the sets that a feed reads.
-pub table-reads-back : (sets : List ℕ) → ((i : ℕ) → getD sets i 0 < 256 ^ 2) → tableOf (length sets) (row 2 sets) ≡ sets
-unfolding tableOf
-table-reads-back sets small = ext-getD 0 _ _ (length-tabled m _ m) same
-  where
-    m : ℕ
-    m = length sets
-
-    same : (i : ℕ) → i < length (tabled m (field 2 (row 2 sets)) m) → getD (tabled m (field 2 (row 2 sets)) m) i 0 ≡ getD sets i 0
-    same i l = let i< : i < m = rw (length-tabled m (field 2 (row 2 sets)) m) at l in row-tabled m (field 2 (row 2 sets)) m i i< i< ∙ field-row 2 sets small i i<

@@ -1,24 +1,20 @@
 -- The C form of the ledger's calls: tables in bytes, the ledger and a pair's figures in words.
-use Prim.Native.Nat.{ℕ, _*_}
+use Prim.Native.Nat.{ℕ}
 use mathlib.Core.Bool.{Bool, _&&_, cond}
 use mathlib.Core.List.{List, [], _∷_}
 use lib.Dec.{eqb}
 use lib.ListN.{length}
-use Rattle.laws.specs.Bytes.{field, row}
-use Rattle.laws.specs.Sets.{tabled}
+use Rattle.laws.specs.Bytes.{row}
+use Rattle.lent.specs.Filled.{fittedNumber, filledAfter}
+use Rattle.table_bytes.specs.Table.{tableLen, tableOf}
 use Rattle.shelf.specs.Asked.{setsAsked}
 use Rattle.ledger.specs.Lent.{lentNumber, lentFeed, lentShown}
 use Rattle.ledger.specs.declared.book.Figures.{Figures}
-use Rattle.bellacush.specs.Lent.{fittedNumber, filledAfter}
-
--- the m sets that a table's bytes are, two bytes each
-unfoldable pub tableOf : ℕ → List ℕ → List ℕ
-tableOf m bytes = tabled m (field 2 bytes) m
 
 -- the sets asked of a block
 module _ (m n : ℕ) (block table : List ℕ) where
   abbrev pub askedNumber : ℕ
-  askedNumber = fittedNumber (eqb (length table) (m * 2)) (setsAsked m n block .number)
+  askedNumber = fittedNumber (eqb (length table) (tableLen m)) (setsAsked m n block .number)
 
   abbrev pub askedTable : List ℕ
   askedTable = filledAfter askedNumber (row 2 (setsAsked m n block .sets)) table
@@ -26,7 +22,7 @@ module _ (m n : ℕ) (block table : List ℕ) where
 -- the feed, by the bytes of both tables
 module _ (m : ℕ) (words : List ℕ) (n : ℕ) (asked connected : List ℕ) where
   unfoldable pub tablesFit : Bool
-  tablesFit = eqb (length asked) (m * 2) && eqb (length connected) (m * 2)
+  tablesFit = eqb (length asked) (tableLen m) && eqb (length connected) (tableLen m)
 
   abbrev pub feedNumber : ℕ
   feedNumber = fittedNumber tablesFit (lentNumber m words n)

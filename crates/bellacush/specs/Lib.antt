@@ -1,5 +1,4 @@
 pub mod Frames
-pub mod Lent
 pub mod Ledger
 pub mod Slot
 pub mod State

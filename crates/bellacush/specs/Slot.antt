@@ -5,11 +5,11 @@ use mathlib.Core.List.{List, _++_}
 use lib.Dec.{eqb}
 use lib.ListN.{length, getD, take, drop}
 use Rattle.laws.specs.Bytes.{bigEndian, number, row}
+use Rattle.lcf.specs.Modes.{modeOf}
 use Rattle.lcf.specs.declared.state.State.{State}
-use Rattle.lcf.specs.declared.state.Mode.{Mode}
-use Rattle.lcf.specs.declared.state.Mode.the-variants.{Central, Distributed}
 use Rattle.lcf.specs.declared.work.Answer.{Answer}
 use Rattle.lcf.specs.declared.work.Stepped.{Stepped}
+use Rattle.table_bytes.specs.Table.{tableLen}
 use Rattle.shelf.specs.Step.{stepped, output}
 
 -- n, I and J, a byte each, and the slot due, four bytes
@@ -21,10 +21,6 @@ stateBytes st = bigEndian 1 (st .ports) ++ bigEndian 1 (st .initiator .0) ++ big
 
 abbrev pub stateLen : ℕ
 stateLen = 7
-
--- mode 0 is central, and any other mode is the round limit
-unfoldable pub modeOf : ℕ → Mode
-modeOf mode = cond (eqb mode 0) Central (Distributed mode)
 
 -- the number plus 256 times the rounds
 abbrev pub wordOf : Answer → ℕ
@@ -41,7 +37,7 @@ module _ (m : ℕ) (state : List ℕ) (slot mode : ℕ) (block : List ℕ) where
   module _ (out table : List ℕ) where
     -- the state is seven bytes, and the table two for each of m sets
     unfoldable pub fits : Bool
-    fits = eqb (length state) stateLen && eqb (length table) (m * 2)
+    fits = eqb (length state) stateLen && eqb (length table) (tableLen m)
 
     unfoldable pub run : Stepped
     run = stepped m (stateOf state) slot (modeOf mode) block out

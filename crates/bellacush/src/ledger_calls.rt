@@ -3,12 +3,12 @@ ghost use mathlib.Core.Path.{_≡_};
 ghost use lib.ListN.{length};
 ghost use Rattle.frames.specs.Part.{mostPorts};
 ghost use Rattle.bellacush.specs.Ledger.{figuresLen, figureWords, askedNumber, askedTable, feedNumber, feedWords, figuresNumber, figuresAfter};
-use crate::table_bytes::TABLE_LEN;
-use crate::table_bytes::put_table;
-use crate::table_bytes::table_of;
 use lcf::Initiator;
 use lcf::Target;
 use ledger::Figures;
+use table_bytes::TABLE_LEN;
+use table_bytes::put_table;
+use table_bytes::table_in;
 
 #[no_mangle]
 pub extern "C" fn bellacush_asked(n: u32, block: &[u8], table: &mut [u8]) -> u32
@@ -37,7 +37,7 @@ pub extern "C" fn bellacush_feed(ledger: &mut [u32], n: u32, asked: &[u8], conne
     if connected.len() != TABLE_LEN {
         return 8;
     }
-    ledger::feed_lent(ledger, n as usize, table_of(asked), table_of(connected)) as u32
+    ledger::feed_lent(ledger, n as usize, table_in(asked), table_in(connected)) as u32
 }
 
 fn put_figures(f: Figures, figures: &mut [u32])

@@ -1,28 +1,17 @@
 // The slot call of the C form.
 ghost use mathlib.Core.Path.{_≡_};
-ghost use Prim.Native.Nat.{_*_};
 ghost use lib.ListN.{length};
 ghost use Rattle.frames.specs.Part.{mostPorts};
-ghost use Rattle.bellacush.specs.Slot.{stateLen, modeOf, wordOf, stateAfter, tableAfter, slotWord, slotState, slotTable, slotOutput};
+ghost use Rattle.table_bytes.specs.Table.{tableLen};
+ghost use Rattle.bellacush.specs.Slot.{stateLen, wordOf, stateAfter, tableAfter, slotWord, slotState, slotTable, slotOutput};
 use crate::state_bytes::STATE_LEN;
 use crate::state_bytes::state_bytes;
 use crate::state_bytes::state_of;
-use crate::table_bytes::TABLE_LEN;
-use crate::table_bytes::put_table;
 use lcf::Answer;
-use lcf::Mode;
 use lcf::Set;
 use lcf::Stepped;
-
-fn mode_of(mode: u32) -> Mode
-    ensures { λ r. ⌜ r ≡ modeOf mode ⌝ }
-{
-    if mode == 0 {
-        Mode::Central
-    } else {
-        Mode::Distributed(mode)
-    }
-}
+use table_bytes::TABLE_LEN;
+use table_bytes::put_table;
 
 fn word_of(answer: Answer) -> u32
     ensures { λ r. ⌜ r ≡ wordOf answer ⌝ }
@@ -32,7 +21,7 @@ fn word_of(answer: Answer) -> u32
 
 // Stores the next state and the sets of a slot that was served.
 fn store(stepped: Stepped, state: &mut [u8], table: &mut [u8])
-    requires { ⌜ (length (now state) ≡ stateLen) × (length (now table) ≡ mostPorts * 2) ⌝ }
+    requires { ⌜ (length (now state) ≡ stateLen) × (length (now table) ≡ tableLen mostPorts) ⌝ }
     ensures { λ _. ⌜ (now (state .exit) ≡ stateAfter stepped (now (state .entry))) × (now (table .exit) ≡ tableAfter stepped (now (table .entry))) ⌝ }
 {
     let next = stepped.state;
@@ -64,7 +53,7 @@ pub extern "C" fn bellacush_slot(
     if table.len() != TABLE_LEN {
         return 8;
     }
-    let stepped = shelf::step(state_of(state), slot, mode_of(mode), block, link, out);
+    let stepped = shelf::step(state_of(state), slot, lcf::mode_of(mode), block, link, out);
     store(stepped, state, table);
     let answer = stepped.answer;
     word_of(answer)

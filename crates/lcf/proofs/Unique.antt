@@ -4,10 +4,12 @@ use mathlib.Core.List.{List}
 use Prim.Native.Nat.{ℕ}
 use Rattle.laws.proofs.Unique.{the-result}
 use Rattle.lcf.specs.declared.state.Fresh.{Fresh}
+use Rattle.lcf.specs.declared.state.Mode.{Mode}
 use Rattle.lcf.specs.declared.heard.Tables.{Tables}
 use Rattle.lcf.specs.declared.work.Stepped.{Stepped}
 use Rattle.lcf.proofs.state.State.fresh.Reads as fresh
 use Rattle.lcf.proofs.state.State.empty_table.Reads as empty-table
+use Rattle.lcf.proofs.state.mode_of.Reads as mode-of
 use Rattle.lcf.proofs.heard.counted.Reads as counted
 use Rattle.lcf.proofs.sets.within.Reads as within
 use Rattle.lcf.proofs.slot.due_number.Reads as due-number
@@ -19,6 +21,9 @@ fresh-once κs a r s x y p q = the-result p q
 
 pub empty-table-once : (κs a : _) (r s : List ℕ) (x y : _) → empty-table.Learnt κs a r x → empty-table.Learnt κs a s y → r ≡ s
 empty-table-once κs a r s x y p q = the-result p q
+
+pub mode-of-once : (κs a : _) (r s : Mode) (x y : _) → mode-of.Learnt κs a r x → mode-of.Learnt κs a s y → r ≡ s
+mode-of-once κs a r s x y p q = the-result p q
 
 pub counted-once : (κs a : _) (r s : Tables) (x y : _) → counted.Learnt κs a r x → counted.Learnt κs a s y → r ≡ s
 counted-once κs a r s x y p q = the-result p q

@@ -1,4 +1,5 @@
 pub mod Ready
+pub mod Modes
 pub mod Heard
 pub mod Choice
 pub mod Scan

@@ -23,5 +23,6 @@ pub use state::Set;
 pub use state::State;
 pub use state::Table;
 pub use state::Target;
+pub use state::mode_of;
 pub use work::Answer;
 pub use work::Stepped;

@@ -3,6 +3,7 @@ ghost use mathlib.Core.Path.{_≡_};
 ghost use lib.ListN.{replicate};
 ghost use Rattle.frames.specs.Part.{mostPorts};
 ghost use Rattle.lcf.specs.Ready.{fresh};
+ghost use Rattle.lcf.specs.Modes.{modeOf};
 
 // A set of ports, bit p for port p; and a row of such sets for each port.
 pub type Set = u16;
@@ -30,6 +31,17 @@ pub enum Mode {
     Central,
     // With its round limit.
     Distributed(u32),
+}
+
+// The mode that a number names.
+pub fn mode_of(mode: u32) -> Mode
+    ensures { λ r. ⌜ r ≡ modeOf mode ⌝ }
+{
+    if mode == 0 {
+        Mode::Central
+    } else {
+        Mode::Distributed(mode)
+    }
 }
 
 // A fresh state, or number 1 and a state of zeros.

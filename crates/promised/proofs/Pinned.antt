@@ -11,6 +11,7 @@ use Rattle.laws.proofs.Bytes.{number-big}
 use Rattle.frames.specs.Config.{configLen}
 use Rattle.frames.specs.Grant.{grantLen}
 use Rattle.frames.specs.Part.{mostPorts}
+use Rattle.lcf.specs.Modes.{modeOf}
 use Rattle.lcf.specs.Ready.{fresh}
 use Rattle.lcf.specs.declared.state.State.{State}
 use Rattle.lcf.specs.declared.state.Fresh.{Fresh}
@@ -22,7 +23,7 @@ use Rattle.demands.specs.Rounds.{HasRounds}
 use Rattle.demands.proofs.Qen.{qen-unused, qen-unused-output}
 use Rattle.demands.proofs.Rounds.{rounds-run}
 use Rattle.demands.proofs.Started.{fresh-serves}
-use Rattle.bellacush.specs.Slot.{stateOf, modeOf, fits, run, slotWord, slotState, slotTable, slotOutput}
+use Rattle.bellacush.specs.Slot.{stateOf, fits, run, slotWord, slotState, slotTable, slotOutput}
 use Rattle.promised.specs.Call.{Handed, CCall, promise, Kept, number, rounds, onFrames, Lengths}
 use Rattle.promised.proofs.Calls.{number-there, served-call}
 

@@ -18,11 +18,12 @@ use Rattle.lcf.specs.Planned.{planner, give, planned}
 use Rattle.lcf.specs.Central.{fewest, winner, serve}
 use Rattle.lcf.specs.Distributed.{askers, grants, offers, accepted, answer, round, oneMore, distributed}
 use Rattle.lcf.specs.Advance.{advance}
+use Rattle.lcf.specs.Modes.{modeOf}
 use Rattle.lcf.specs.Slot.{within, start, serveMode, matched, behind, wrongLimit, dueNumber, declined, ended, slotOnTables}
 use Rattle.shelf.specs.Hosts.{said, hostsOf}
 use Rattle.shelf.specs.Grants.{lowest, grantFor, granted}
 use Rattle.shelf.specs.Step.{refusal, slotOnHosts, stepped, output}
-use Rattle.bellacush.specs.Slot.{stateOf, stateBytes, modeOf, stateAfter, tableAfter, fits, run, slotWord, slotState, slotTable, slotOutput}
+use Rattle.bellacush.specs.Slot.{stateOf, stateBytes, stateAfter, tableAfter, fits, run, slotWord, slotState, slotTable, slotOutput}
 use Rattle.promised.specs.Call.{Handed, promise}
 
 -- a call with a block of three frames, each with ben 7 and qen 0x0102; 16 bytes of output and two of table for each set, all of them 9; the

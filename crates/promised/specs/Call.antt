@@ -5,8 +5,9 @@ use mathlib.Core.List.{List, _++_}
 use Prim.Native.Nat.{ℕ, _*_, _/_, _%_}
 use lib.Dec.{eqb}
 use lib.ListN.{length, take, drop}
+use Rattle.lcf.specs.Modes.{modeOf}
 use Rattle.demands.specs.SlotCall.{SlotCall}
-use Rattle.bellacush.specs.Slot.{stateLen, modeOf, slotWord, slotState, slotTable, slotOutput}
+use Rattle.bellacush.specs.Slot.{stateLen, slotWord, slotState, slotTable, slotOutput}
 
 -- how many bytes of the state are lent, the slot number, the mode as a number, the block, the link word, and the bytes of the output and of the
 -- table, all of which are lent

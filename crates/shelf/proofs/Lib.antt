@@ -4,4 +4,5 @@ pub mod Hearing
 pub mod Lowest
 pub mod Refusals
 pub mod Stepping
+pub mod Unawaited
 pub mod Unique

@@ -2,6 +2,7 @@
 ghost use mathlib.Core.Path.{_≡_};
 ghost use Rattle.frames.specs.Part.{mostPorts};
 ghost use Rattle.shelf.specs.Step.{refusal, slotOnHosts, stepped, output};
+ghost use Rattle.shelf.specs.Unanswered.{blockRefusal, unanswered};
 use crate::grants::write_grants;
 use crate::hosts::Hosts;
 use crate::hosts::count_hosts;
@@ -13,8 +14,8 @@ use lcf::Set;
 use lcf::State;
 use lcf::Stepped;
 
-fn refusal(state: State, slot: u32, mode: Mode, block: &[u8], out: &[u8]) -> u8
-    ensures { λ r. ⌜ r ≡ refusal mostPorts state slot mode (now (block .entry)) (now (out .entry)) ⌝ }
+fn block_refusal(state: State, slot: u32, mode: Mode, block: &[u8]) -> u8
+    ensures { λ r. ⌜ r ≡ blockRefusal mostPorts state slot mode (now (block .entry)) ⌝ }
 {
     let number = lcf::due_number(state, slot, mode);
     if number != 0 {
@@ -22,6 +23,16 @@ fn refusal(state: State, slot: u32, mode: Mode, block: &[u8], out: &[u8]) -> u8
     }
     if block.len() != state.ports * Config::LEN {
         return 6;
+    }
+    0
+}
+
+fn refusal(state: State, slot: u32, mode: Mode, block: &[u8], out: &[u8]) -> u8
+    ensures { λ r. ⌜ r ≡ refusal mostPorts state slot mode (now (block .entry)) (now (out .entry)) ⌝ }
+{
+    let number = block_refusal(state, slot, mode, block);
+    if number != 0 {
+        return number;
     }
     if out.len() < state.ports * Grant::LEN {
         return 7;
@@ -54,4 +65,16 @@ pub fn step(state: State, slot: u32, mode: Mode, block: &[u8], link: Set, out: &
     }
     write_grants(state.ports, hosts.heard, link, sets, out);
     stepped
+}
+
+// The step of a slot that nobody waits for: no grants are written.
+pub fn unanswered(state: State, slot: u32, mode: Mode, block: &[u8]) -> Stepped
+    ensures { λ r. ⌜ r ≡ unanswered mostPorts state slot mode (now (block .entry)) ⌝ }
+{
+    let number = block_refusal(state, slot, mode, block);
+    if number != 0 {
+        return lcf::declined(state, number);
+    }
+    let hosts = hear(state.ports, block);
+    slot_on_hosts(state, slot, mode, hosts)
 }

@@ -7,3 +7,4 @@ mod hosts;
 pub use asked::Asked;
 pub use asked::sets_asked;
 pub use by_value::step;
+pub use by_value::unanswered;

@@ -1,6 +1,9 @@
+use mathlib.Core.Path.{_∙_}
 use borrow.Author.Needs.{needs}
 use borrow.Author.Tests.{eq-eqb, ne-eqb}
-use Rattle.bellacush.proofs.Ledgers.{unfit, declines, fills}
+use Rattle.frames.specs.Part.{mostPorts}
+use Rattle.lent.proofs.Fills.{unfit, declines, fills}
+use Rattle.table_bytes.proofs.Fits.{table-filled}
 use Rattle.bellacush.proofs.ledger_calls.bellacush_asked.Statement.{statement}
 use Rattle.bellacush.proofs.ledger_calls.bellacush_asked.Tie as tie
 
@@ -14,4 +17,4 @@ bellacush-asked-spec =
     (λ c.
     let answered = c .before .before .before .before .before in
     let asked = answered .before in
-    rw (← asked .sets-asked .ensures) (fills _ _ _ _ (eq-eqb _ _ (asked .before .if1 .left)) (answered .if2 .left) _ (c .before .before .put-table .ensures))))
+    rw (← asked .sets-asked .ensures) (fills _ _ _ _ (eq-eqb _ _ (asked .before .if1 .left)) (answered .if2 .left) _ (c .before .before .put-table .ensures .0 ∙ table-filled mostPorts _ (asked .before .if1 .left) _ (c .before .before .put-table .ensures .1)))))

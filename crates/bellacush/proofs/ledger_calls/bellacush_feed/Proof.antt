@@ -13,4 +13,4 @@ bellacush-feed-spec =
     (λ c.
     let tables = c .before .before .before in
     let tested = tables .before .before .before in
-    fed mostPorts _ _ _ _ _ _ _ _ (tested .before .if1 .left) (tested .if2 .left) (tables .before .table-of .ensures) (tables .table-of2 .ensures) (c .before .before .feed-lent .ensures)))
+    fed mostPorts _ _ _ _ _ _ _ _ (tested .before .if1 .left) (tested .if2 .left) (tables .before .table-in .ensures) (tables .table-in2 .ensures) (c .before .before .feed-lent .ensures)))

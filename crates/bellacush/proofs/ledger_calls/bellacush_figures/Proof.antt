@@ -1,6 +1,6 @@
 use borrow.Author.Needs.{needs}
 use borrow.Author.Tests.{eq-eqb, ne-eqb}
-use Rattle.bellacush.proofs.Ledgers.{unfit, declines, fills}
+use Rattle.lent.proofs.Fills.{unfit, declines, fills}
 use Rattle.bellacush.proofs.ledger_calls.bellacush_figures.Statement.{statement}
 use Rattle.bellacush.proofs.ledger_calls.bellacush_figures.Tie as tie
 
