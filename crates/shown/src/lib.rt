@@ -3,12 +3,10 @@ ghost use mathlib.Core.Path.{_≡_};
 ghost use Rattle.frames.specs.Part.{mostPorts};
 ghost use Rattle.shown.specs.Slots.{stateAt, rowsOf};
 use lcf::Initiator;
-use lcf::Set;
 use lcf::State;
 use lcf::Table;
 use lcf::Target;
 use libc::STDOUT_FILENO;
-use words::holds;
 
 fn text(bytes: &[u8]) {
     io::write_all(STDOUT_FILENO, bytes);
@@ -55,42 +53,9 @@ pub fn rows(digits: u16) -> Table
     table
 }
 
-// Writes t if the set has it, and answers whether a comma comes before the next.
-fn target(set: Set, t: usize, comma: bool) -> bool {
-    if holds(set, t) {
-        if comma {
-            text(b",");
-        }
-        number(t as u64);
-        return true;
-    }
-    comma
-}
-
-// Rising, with commas between, or a hyphen for none.
-fn targets(set: Set) {
-    if set == 0 {
-        text(b"-");
-    }
-    let mut comma = false;
-    for t in 0..State::MOST {
-        comma = target(set, t, comma);
-    }
-}
-
-fn initiator(i: usize, set: Set) {
-    text(b" ");
-    number(i as u64);
-    text(b":");
-    targets(set);
-}
-
 // The sets of the first n initiators, and the line's end.
 pub fn sets(n: usize, sets: Table) {
-    for i in 0..State::MOST {
-        if i < n {
-            initiator(i, sets[i]);
-        }
-    }
-    text(b"\n");
+    let mut line = [0u8; lines::LONGEST];
+    let end = lines::put_initiators(&mut line, 0, n, sets);
+    text(&line[..end]);
 }
