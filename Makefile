@@ -1,5 +1,6 @@
-# make            the proved library and the firmware demo
+# make            the proved library, the firmware demo and the replay of traces
 # make run        play a shelf; ARGS="ports=8 slots=640" changes it, ARGS=help explains
+#                 ARGS="trace=FILE" keeps its slots in a trace, and build/replay FILE prints their tables
 # make test       the gate: all proofs, then the Rust and C tests
 # make bench      measure the slot call against a plain Rust slot; BEFORE=elsewhere/libbellacush.a against that one too
 # make install    library, header and pkg-config file, under DESTDIR and PREFIX
@@ -25,9 +26,9 @@ CARGO = BELLACUSH_ARCHIVE='$(abspath $(LIBRARY))' cargo
 
 .PHONY: all run test test-rust test-c bench before install clean
 
-all: $(LIBRARY) build/shelf
+all: $(LIBRARY) build/shelf build/replay
 
-# The library, and the checks alone, which only the benchmark links.
+# The library, and the checks alone, which the tests and the benchmark link.
 $(PROVED) $(MEASURED): target/staticlib/lib%.a: $(SOURCES)
 	rt staticlib $*
 	@touch $@
@@ -35,6 +36,15 @@ $(PROVED) $(MEASURED): target/staticlib/lib%.a: $(SOURCES)
 build/shelf: firmware/shelf.c $(HEADER) $(LIBRARY)
 	@mkdir -p build
 	$(CC) -std=c99 $(WARNINGS) $(CFLAGS) -Iinclude -o $@ $< $(LIBRARY)
+
+# The program is proved as the library is.
+target/bin/replay: $(SOURCES)
+	rt check replay
+	@touch $@
+
+build/replay: target/bin/replay
+	@mkdir -p build
+	cp $< $@
 
 run: build/shelf
 	@./build/shelf $(ARGS)
@@ -55,10 +65,11 @@ build/calls-cpp: tests/c/calls.c $(HEADER) $(LIBRARY)
 	@mkdir -p build
 	$(CXX) -std=c++11 $(WARNINGS) $(CXXFLAGS) -Iinclude -o $@ -x c++ $< -x none $(LIBRARY)
 
-test-c: build/calls-c build/calls-cpp build/shelf
+test-c: build/calls-c build/calls-cpp build/shelf build/replay
 	./build/calls-c
 	./build/calls-cpp
 	tests/c/shelf ./build/shelf
+	tests/c/replay ./build/shelf ./build/replay
 
 # An archive to compare with: only its slot call is seen, under another name, so that both fit into one program.
 BEFORE ?=

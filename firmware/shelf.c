@@ -3,6 +3,7 @@
  * twice, the second time by the standby link. First as built, where the copy is refused; then the
  * faulty way, where the card takes each copy for a new slot. Prints what both did, and what the
  * operators' charts make of it: the old one drew slots asked, the ledger counts a request once.
+ * The slots as built can be kept in a trace, from which `replay` makes their tables again.
  */
 #include <stdio.h>
 #include <stdlib.h>
@@ -14,17 +15,23 @@
 #define POPULAR_TARGET 0u
 #define SCREEN 80 /* columns */
 #define NAME 12   /* the column of names left of a grid */
+#define MOST_TRACED ((unsigned long)BELLACUSH_MOST_BODIES * BELLACUSH_MOST_BODY_SLOTS)
 
 static const char usage[] =
     "usage: shelf [ports=4] [load=90] [mode=central] [slots=160] [seed=1]\n"
+    "             [trace=FILE] [tables]\n"
     "  ports  hosts on the shelf, 1 to 16\n"
     "  load   chance in percent that a new cell comes for a pair in a slot, 0 to 100\n"
     "  mode   central, or the round limit of the distributed form, 1 to 16\n"
     "  slots  slots to play, 1 to 1000000; ten turns for each pair if not said\n"
-    "  seed   of the random traffic, 0 to 4294967295\n";
+    "  seed   of the random traffic, 0 to 4294967295\n"
+    "  trace  file to keep the slots in, as built; it holds 368640 of them\n"
+    "  tables print just the table of each slot, as built: its number, and who holds what\n";
 
 struct settings {
     unsigned long ports, load, mode, slots, seed;
+    const char *trace; /* the name of its file, or NULL */
+    int tables;
 };
 
 typedef unsigned long grid[MOST][MOST]; /* a count for each initiator and target */
@@ -41,6 +48,17 @@ struct shelf {
 /* Of some pairs: the ledger's figures and the cells sent. */
 struct sums {
     unsigned long figures[BELLACUSH_FIGURES_LEN], sent;
+};
+
+/* The slots played so far, on their way into a trace. */
+struct recorder {
+    uint8_t start[BELLACUSH_STATE_LEN]; /* before the first slot that is in no body yet */
+    uint8_t blocks[BELLACUSH_BLOCK_LEN(MOST) * BELLACUSH_MOST_BODY_SLOTS];
+    uint32_t slots; /* that are in no body yet */
+    uint8_t *bodies;
+    size_t len, count; /* of the bodies */
+    uint32_t firsts[BELLACUSH_MOST_BODIES];
+    uint16_t counts[BELLACUSH_MOST_BODIES];
 };
 
 /* One block of frames with what the card needs to serve it. */
@@ -96,6 +114,10 @@ static void take(struct settings *set, const char *argument)
         set->slots = number_of(argument, 1, 1000000);
     else if (names(argument, "seed"))
         set->seed = number_of(argument, 0, 4294967295ul);
+    else if (names(argument, "trace") && argument[strlen("trace=")] != '\0')
+        set->trace = argument + strlen("trace=");
+    else if (strcmp(argument, "tables") == 0)
+        set->tables = 1;
     else
         refuse(argument, "not an argument of this program");
 }
@@ -158,9 +180,8 @@ static void send_frames(const struct shelf *shelf, struct slot *slot)
     }
 }
 
-static uint32_t due(const struct shelf *shelf)
+static uint32_t due(const uint8_t *s)
 {
-    const uint8_t *s = shelf->state;
     return (uint32_t)s[3] << 24 | (uint32_t)s[4] << 16 | (uint32_t)s[5] << 8 | s[6];
 }
 
@@ -212,7 +233,7 @@ static void send_cells(struct shelf *shelf, const struct slot *slot)
 /* One slot of time: the block is served and its cells are sent; then its copy comes. */
 static void play_slot(struct shelf *shelf, struct slot *slot, int copies_are_new)
 {
-    uint32_t number = due(shelf);
+    uint32_t number = due(shelf->state);
 
     new_cells(shelf);
     send_frames(shelf, slot);
@@ -230,6 +251,90 @@ static void play_slot(struct shelf *shelf, struct slot *slot, int copies_are_new
         expect("bellacush_slot", call_slot(shelf, slot, number), BELLACUSH_SLOT_STALE);
         shelf->refused++;
     }
+}
+
+/* Recording */
+
+static void give_up(const char *what, const char *name)
+{
+    fprintf(stderr, "shelf: %s %s\n", what, name);
+    exit(1);
+}
+
+static uint8_t *room(size_t len)
+{
+    uint8_t *bytes = (uint8_t *)malloc(len);
+
+    if (bytes == NULL)
+        give_up("no memory for", "the trace");
+    return bytes;
+}
+
+static void start_trace(struct recorder *recorder, const struct settings *set)
+{
+    size_t bodies = set->slots / BELLACUSH_MOST_BODY_SLOTS + 1;
+
+    memset(recorder, 0, sizeof *recorder);
+    recorder->bodies = room(BELLACUSH_BODY_LEN(set->ports, set->slots) +
+                            BELLACUSH_BODY_LEN(set->ports, 0) * bodies);
+}
+
+/* The slots that are in no body yet become one. */
+static void seal_body(struct recorder *recorder, const struct settings *set)
+{
+    size_t n = set->ports, len = BELLACUSH_BODY_LEN(n, recorder->slots);
+
+    expect("bellacush_seal_body",
+           bellacush_seal_body((uint32_t)n, recorder->slots, (uint32_t)set->mode,
+                               recorder->start[1], recorder->start[2], recorder->blocks,
+                               BELLACUSH_BLOCK_LEN(n) * recorder->slots,
+                               recorder->bodies + recorder->len, len),
+           BELLACUSH_DONE);
+    recorder->firsts[recorder->count] = due(recorder->start);
+    recorder->counts[recorder->count] = (uint16_t)recorder->slots;
+    recorder->count++;
+    recorder->len += len;
+    recorder->slots = 0;
+}
+
+/* A slot was served from this state. */
+static void record(struct recorder *recorder, const struct settings *set, const uint8_t *state,
+                   const struct slot *slot)
+{
+    size_t len = BELLACUSH_BLOCK_LEN(set->ports);
+
+    if (recorder->slots == BELLACUSH_MOST_BODY_SLOTS)
+        seal_body(recorder, set);
+    if (recorder->slots == 0)
+        memcpy(recorder->start, state, sizeof recorder->start);
+    memcpy(recorder->blocks + len * recorder->slots, slot->block, len);
+    recorder->slots++;
+}
+
+static void write_file(const char *name, const uint8_t *bytes, size_t len)
+{
+    FILE *file = fopen(name, "wb");
+
+    if (file == NULL || fwrite(bytes, 1, len, file) != len || fclose(file) != 0)
+        give_up("cannot write", name);
+}
+
+static void end_trace(struct recorder *recorder, const struct settings *set)
+{
+    size_t len;
+    uint8_t *trace;
+
+    seal_body(recorder, set);
+    len = BELLACUSH_CONTENTS_LEN(recorder->count) + recorder->len;
+    trace = room(len);
+    expect("bellacush_write_trace",
+           bellacush_write_trace((uint32_t)set->ports, recorder->firsts, recorder->count,
+                                 recorder->counts, recorder->count, recorder->bodies,
+                                 recorder->len, trace, len),
+           BELLACUSH_DONE);
+    write_file(set->trace, trace, len);
+    free(trace);
+    free(recorder->bodies);
 }
 
 /* Printing */
@@ -396,21 +501,49 @@ static void print_moral(const struct shelf *built, const struct shelf *faulty)
 
 /* Playing */
 
-static void play(struct shelf *shelf, const struct settings *set, int copies_are_new)
+static void start(struct shelf *shelf, const struct settings *set)
+{
+    memset(shelf, 0, sizeof *shelf);
+    shelf->set = set;
+    shelf->state[0] = (uint8_t)set->ports;
+    shelf->random = (uint32_t)set->seed * 2654435769u | 1u; /* the generator would stay at 0 */
+}
+
+/* As built; the first table is printed, or all of them, each behind its slot's number. */
+static void play_built(struct shelf *shelf, const struct settings *set)
+{
+    static struct recorder recorder;
+    struct slot slot;
+    unsigned long k;
+
+    memset(&slot, 0, sizeof slot);
+    start(shelf, set);
+    if (set->trace != NULL)
+        start_trace(&recorder, set);
+    for (k = 0; k < set->slots; k++) {
+        uint8_t before[BELLACUSH_STATE_LEN];
+        memcpy(before, shelf->state, sizeof before);
+        play_slot(shelf, &slot, 0);
+        if (set->tables)
+            printf("%lu", (unsigned long)due(before));
+        if (set->tables || k == 0)
+            print_table(set->ports, slot.table);
+        if (set->trace != NULL)
+            record(&recorder, set, before, &slot);
+    }
+    if (set->trace != NULL)
+        end_trace(&recorder, set);
+}
+
+static void play_faulty(struct shelf *shelf, const struct settings *set)
 {
     struct slot slot;
     unsigned long k;
 
-    memset(shelf, 0, sizeof *shelf);
     memset(&slot, 0, sizeof slot);
-    shelf->set = set;
-    shelf->state[0] = (uint8_t)set->ports;
-    shelf->random = (uint32_t)set->seed * 2654435769u | 1u; /* the generator would stay at 0 */
-    for (k = 0; k < set->slots; k++) {
-        play_slot(shelf, &slot, copies_are_new);
-        if (!copies_are_new && k == 0)
-            print_table(set->ports, slot.table);
-    }
+    start(shelf, set);
+    for (k = 0; k < set->slots; k++)
+        play_slot(shelf, &slot, 1);
 }
 
 static void print_shelf(const struct settings *set)
@@ -425,32 +558,52 @@ static void print_shelf(const struct settings *set)
            busy_host(set), POPULAR_TARGET);
 }
 
-int main(int argc, char **argv)
+/* The arguments; false if they ask for help. */
+static int settle(struct settings *set, int argc, char **argv)
 {
-    struct settings set = {4, 90, BELLACUSH_CENTRAL, 0, 1};
-    static struct shelf built, faulty;
     int k;
 
     for (k = 1; k < argc; k++) {
-        if (strcmp(argv[k], "help") == 0 || strcmp(argv[k], "--help") == 0) {
-            fputs(usage, stdout);
+        if (strcmp(argv[k], "help") == 0 || strcmp(argv[k], "--help") == 0)
             return 0;
-        }
-        take(&set, argv[k]);
+        take(set, argv[k]);
     }
-    if (set.slots == 0)
-        set.slots = 10 * set.ports * set.ports;
-    print_shelf(&set);
-    play(&built, &set, 0);
+    if (set->slots == 0)
+        set->slots = 10 * set->ports * set->ports;
+    if (set->trace != NULL && set->slots > MOST_TRACED)
+        refuse(set->trace, "a trace does not hold so many slots");
+    return 1;
+}
+
+/* The whole story: as built, and the faulty way. */
+static void tell(const struct settings *set)
+{
+    static struct shelf built, faulty;
+
+    print_shelf(set);
+    play_built(&built, set);
     printf("\nAs built: %lu slots served, %lu copies refused with number %d.\n", built.served,
            built.refused, BELLACUSH_SLOT_STALE);
     print_grids(&built);
     print_charts(&built);
-    play(&faulty, &set, 1);
+    play_faulty(&faulty, set);
     printf("\nThe faulty way: %lu slots served, half of them copies, too late to be of use.\n",
            faulty.served);
     print_grids(&faulty);
     print_charts(&faulty);
     print_moral(&built, &faulty);
+}
+
+int main(int argc, char **argv)
+{
+    struct settings set = {4, 90, BELLACUSH_CENTRAL, 0, 1, NULL, 0};
+    static struct shelf shelf;
+
+    if (!settle(&set, argc, argv))
+        fputs(usage, stdout);
+    else if (set.tables)
+        play_built(&shelf, &set);
+    else
+        tell(&set);
     return 0;
 }

@@ -3,16 +3,17 @@
  *
  * One call serves one slot: it takes the block of configuration frames that the hosts sent,
  * joins initiators to targets without conflict, and writes a grant frame for each host. A
- * ledger counts what was asked and what came of it, each waiting request once.
+ * ledger counts what was asked and what came of it, each waiting request once. A trace keeps
+ * the blocks of slots in one file, from which they are replayed.
  * The library holds nothing of its own, allocates nothing and always returns; everything that
  * it reads or changes is lent by the caller for the time of the call.
  *
  * What the caller must see to, for every call:
- *  - A pointer shows as many bytes as the length beside it says; where it points to uint32_t,
- *    as many words, aligned as the type asks. A null pointer is not to be lent with a length
- *    other than 0.
- *  - Nothing that a call may write (state, out, table, part, ledger of a feed, figures)
- *    overlaps anything else that is lent to the same call.
+ *  - A pointer shows as many bytes as the length beside it says; where it points to uint32_t
+ *    or uint16_t, as many words of that type, aligned as it asks. A null pointer is not to be
+ *    lent with a length other than 0.
+ *  - Nothing that a call may write (state, out, table, tables, part, ledger of a feed, figures,
+ *    shown, place) overlaps anything else that is lent to the same call.
  *  - No other thread touches what is lent before the call returns. Calls on separate memory
  *    may run at the same time.
  * Nothing else is asked: any lengths, bytes, words and numbers are answered as said below.
@@ -43,6 +44,16 @@ extern "C" {
 /* Lengths in words of 32 bits. */
 #define BELLACUSH_LEDGER_LEN 1041 /* the slots counted, four tables of counts, the sets that wait */
 #define BELLACUSH_FIGURES_LEN 5   /* the figures of one pair */
+#define BELLACUSH_HEAD_WORDS 2    /* what is shown of a trace */
+#define BELLACUSH_BODY_WORDS 4    /* what is shown of one of its bodies */
+
+/* The measures of a trace: how many bodies it has at most, how many slots a body; in bytes, its
+   first two fields, its contents with so many bodies, and a body of so many slots of n ports. */
+#define BELLACUSH_MOST_BODIES 1024
+#define BELLACUSH_MOST_BODY_SLOTS 360
+#define BELLACUSH_HEAD_LEN 3
+#define BELLACUSH_CONTENTS_LEN(count) ((size_t)5 + (size_t)10 * (count))
+#define BELLACUSH_BODY_LEN(n, slots) ((size_t)5 + BELLACUSH_BLOCK_LEN(n) * (slots))
 
 /* Modes: central, or the distributed form with a limit of 1 to 16 rounds. */
 #define BELLACUSH_CENTRAL 0
@@ -60,6 +71,14 @@ extern "C" {
 #define BELLACUSH_WITHDRAWN 3 /* requests that waited and were then no longer asked */
 #define BELLACUSH_OPEN 4      /* 1 if a request waited in the last counted slot, otherwise 0 */
 
+/* The places of what is shown of a trace, and of one of its bodies. */
+#define BELLACUSH_PORTS 0  /* n, 1 to 16 */
+#define BELLACUSH_BODIES 1 /* the body count, 0 to 1024 */
+#define BELLACUSH_FIRST 0  /* the number of the body's first slot */
+#define BELLACUSH_SLOTS 1  /* how many slots it has, 1 to 360 */
+#define BELLACUSH_OFFSET 2 /* where in the file it starts */
+#define BELLACUSH_LENGTH 3 /* how many bytes it has */
+
 /* The numbers that calls return: 0, or why a call declined. */
 enum bellacush_number {
     BELLACUSH_DONE = 0,             /* done */
@@ -69,17 +88,21 @@ enum bellacush_number {
     BELLACUSH_SLOT_EARLY = 4,       /* that difference above 2147483648 */
     BELLACUSH_BAD_LIMIT = 5,        /* distributed round limit outside 1 to 16 */
     BELLACUSH_BAD_BLOCK_LEN = 6,    /* block length other than 11 n */
-    BELLACUSH_OUT_TOO_SHORT = 7,    /* output below 5 n for a slot, 11 or 5 for one frame */
-    BELLACUSH_BAD_LEN = 8,          /* a state, table, frame, part, ledger or figures of another
-                                       length */
+    BELLACUSH_OUT_TOO_SHORT = 7,    /* output below 5 n for a slot, 11 or 5 for one frame; for a
+                                       trace or body, below its length; for tables, below 32
+                                       for each slot */
+    BELLACUSH_BAD_LEN = 8,          /* a state, table, frame, part, ledger, figures, or words to
+                                       show of a trace or body, of another length */
     BELLACUSH_BAD_TYPE = 9,         /* frame type other than asked for */
     BELLACUSH_BAD_CHECK = 10,       /* the frame's check differs */
     BELLACUSH_BAD_GRANT_FIELD = 11, /* bits 3 to 7 of the flags set, gnt nonzero without gntVal,
                                        or, in writing, nodeId or gnt above 15; for figures,
                                        initiator or target above 15 */
     BELLACUSH_NOBODY_JOINED = 12,   /* a distributed round with a live request joined nobody */
-    BELLACUSH_BAD_LEDGER = 13       /* 4294967295 slots are counted already, or a figure of the
+    BELLACUSH_BAD_LEDGER = 13,      /* 4294967295 slots are counted already, or a figure of the
                                        ledger is above its slots counted */
+    BELLACUSH_BAD_TRACE = 14        /* anything that departs from the layout of a trace, or a
+                                       body number at or above the count */
 };
 
 /* What bellacush_slot returns, taken apart: the number, and the rounds that were run. */
@@ -198,6 +221,159 @@ uint32_t bellacush_feed(uint32_t *ledger, size_t ledger_len, uint32_t n,
 uint32_t bellacush_figures(const uint32_t *ledger, size_t ledger_len,
                            uint32_t initiator, uint32_t target,
                            uint32_t *figures, size_t figures_len);
+
+/*
+ * A trace: slots kept for later, in one file. All its numbers have the high byte first.
+ *
+ *      contents   1 byte   the ports n, 1 to 16
+ *                 2 bytes  the body count, 0 to 1024
+ *                 10 bytes for each body, its entry:
+ *                     4 bytes  the number of its first slot
+ *                     2 bytes  how many slots it has, 1 to 360
+ *                     4 bytes  the offset in the file at which it starts
+ *                 2 bytes  the check of all this
+ *      bodies     one behind the other in the order of their entries, the first right behind
+ *                 the contents, without gaps; the last one ends the file
+ *
+ *      a body     1 byte   the mode: 0 central, or else the round limit, 1 to 16
+ *                 1 byte   the initiator offset I before its first slot, below n
+ *                 1 byte   the target offset J, below n
+ *                 11 n bytes for each slot: its block, as bellacush_slot takes it; what its
+ *                          frames hold and whether they are correct is not part of the layout
+ *                 2 bytes  the check of all this
+ *
+ * The check is that of the frames: CRC-16 of polynomial 0x1021, from 0xFFFF on. Slots of a body
+ * follow each other, and after 4294967295 comes 0. Bodies need not follow each other, nor rise.
+ * A body has at most 63365 bytes, a trace at most 64896005.
+ *
+ * A file is a trace exactly if it is, byte for byte, something that bellacush_write_trace writes.
+ *
+ * With the whole file in memory, bellacush_trace checks all of it, and then bellacush_entry shows
+ * where each body is. bellacush_trace_body does both for one body, so each call of it takes the
+ * time of a check of the whole file.
+ *
+ * A file can also be read once from beginning to end, with room for its contents and one body,
+ * in time linear in its length: BELLACUSH_HEAD_LEN bytes, of which the last two are the body
+ * count (above 1024 it is no trace); the contents to their end, which are checked once; and then
+ * body after body, of which the replay checks each.
+ *
+ *      uint32_t shown[BELLACUSH_HEAD_WORDS], place[BELLACUSH_BODY_WORDS], k;
+ *      if (bellacush_contents(start, BELLACUSH_CONTENTS_LEN(count), file_len, shown,
+ *                             BELLACUSH_HEAD_WORDS) == BELLACUSH_DONE)
+ *          for (k = 0; k < shown[BELLACUSH_BODIES]; k++) {
+ *              bellacush_entry(start, BELLACUSH_CONTENTS_LEN(count), k, place,
+ *                              BELLACUSH_BODY_WORDS);
+ *              ... read the next place[BELLACUSH_LENGTH] bytes of the file to body ...
+ *              bellacush_replay(shown[BELLACUSH_PORTS], place[BELLACUSH_FIRST],
+ *                               place[BELLACUSH_SLOTS], body, place[BELLACUSH_LENGTH],
+ *                               tables, tables_len);
+ *          }
+ *
+ * With room in tables for each body, the file is a trace exactly if bellacush_contents and every
+ * bellacush_replay return BELLACUSH_DONE.
+ */
+
+/*
+ * Checks a whole file, contents and bodies: writes its ports and body count to shown, 2 words in
+ * the order of BELLACUSH_PORTS and BELLACUSH_BODIES, if it is a trace.
+ *
+ * Returns BELLACUSH_DONE. Otherwise shown keeps every word. Tested in order: 8 (shown other than
+ * 2 words), 14.
+ */
+uint32_t bellacush_trace(const uint8_t *file, size_t file_len,
+                         uint32_t *shown, size_t shown_len);
+
+/*
+ * Checks a whole file, as bellacush_trace does, and shows where body k of it is: writes to place,
+ * 4 words, its first slot, its slots, its offset and its length, in the order of BELLACUSH_FIRST
+ * to BELLACUSH_LENGTH. So the body is the part of file of that length from that offset on.
+ *
+ * Returns BELLACUSH_DONE. Otherwise place keeps every word. Tested in order: 8 (place other than
+ * 4 words), 14 (file is no trace, or k is at or above its body count).
+ */
+uint32_t bellacush_trace_body(const uint8_t *file, size_t file_len, uint32_t k,
+                              uint32_t *place, size_t place_len);
+
+/*
+ * Checks the contents alone, in the beginning of a file of file_len bytes: start holds all of
+ * the contents, and may hold bytes behind them, which are not looked at. Writes ports and body
+ * count to shown, as bellacush_trace does, if the contents are correct, their offsets leave no
+ * gaps, and the last body ends at file_len (without bodies, the contents do).
+ *
+ * Returns BELLACUSH_DONE. Otherwise shown keeps every word. Tested in order: 8 (shown other than
+ * 2 words), 14.
+ */
+uint32_t bellacush_contents(const uint8_t *start, size_t start_len, size_t file_len,
+                            uint32_t *shown, size_t shown_len);
+
+/*
+ * Shows the entry of body k as it stands: writes to place what bellacush_trace_body does. It
+ * takes the same short time whatever the file, and so is for contents that bellacush_contents
+ * or bellacush_trace found correct; of others, first slot, slots and offset are shown whatever
+ * they are, and as length that of a body of so many slots.
+ *
+ * Returns BELLACUSH_DONE. Otherwise place keeps every word. Tested in order: 8 (place other than
+ * 4 words), 14 (k at or above the body count, ports outside 1 to 16, or start ends before the
+ * entry does).
+ */
+uint32_t bellacush_entry(const uint8_t *start, size_t start_len, uint32_t k,
+                         uint32_t *place, size_t place_len);
+
+/*
+ * Checks a body and replays it: writes the table of its slot s, for s from 0 on, to the 32 bytes
+ * of tables from byte 32 s, as bellacush_slot writes it. Bytes from 32 times the slots on are
+ * not touched.
+ *
+ * n       the ports of its trace.
+ * first   the number of its first slot, and slots how many it has, by its entry. The tables do
+ *         not depend on the number of the first slot.
+ * body    the bytes of the body, as many as BELLACUSH_BODY_LEN(n, slots).
+ * tables  at least 32 times slots bytes; 11520 are enough for any body.
+ *
+ * The tables are those that bellacush_slot wrote, in the body's mode, from the state of n, the
+ * body's I and J and first as the due slot, for one block after the other.
+ *
+ * Returns BELLACUSH_DONE. Otherwise tables keeps every byte. Tested in order: 14 (n outside 1 to
+ * 16, slots outside 1 to 360, or not a body of so many slots for n ports), 7.
+ */
+uint32_t bellacush_replay(uint32_t n, uint32_t first, uint32_t slots,
+                          const uint8_t *body, size_t body_len,
+                          uint8_t *tables, size_t tables_len);
+
+/*
+ * Writes a body to the first BELLACUSH_BODY_LEN(n, slots) bytes of out; bytes beyond are not
+ * touched. To record slots, keep the mode, n, I, J and the due slot (its first slot) of the state
+ * before the first of them, and the block of each that is served; a copy that is refused is not
+ * recorded.
+ *
+ * mode    BELLACUSH_CENTRAL, or else the round limit of the distributed form.
+ * i, j    the offsets I and J before the first slot.
+ * blocks  11 n bytes for each slot: the blocks, one behind the other.
+ *
+ * Returns BELLACUSH_DONE. Otherwise out keeps every byte. Tested in order: 14 (n outside 1 to 16,
+ * slots outside 1 to 360, mode above 16, i or j at or above n, or blocks of another length), 7.
+ */
+uint32_t bellacush_seal_body(uint32_t n, uint32_t slots, uint32_t mode, uint32_t i, uint32_t j,
+                             const uint8_t *blocks, size_t blocks_len,
+                             uint8_t *out, size_t out_len);
+
+/*
+ * Writes a trace to the first BELLACUSH_CONTENTS_LEN(slots_len) + bodies_len bytes of out; bytes
+ * beyond are not touched.
+ *
+ * n       the ports.
+ * firsts  a word for each body: the number of its first slot.
+ * slots   a word of 16 bits for each body: how many slots it has.
+ * bodies  the bodies, one behind the other, as bellacush_seal_body writes them.
+ *
+ * Returns BELLACUSH_DONE. Otherwise out keeps every byte. Tested in order: 14 (n outside 1 to 16,
+ * firsts and slots of different lengths or above 1024, a body's slots outside 1 to 360, or bodies
+ * are not just a body for each of these slots), 7.
+ */
+uint32_t bellacush_write_trace(uint32_t n, const uint32_t *firsts, size_t firsts_len,
+                               const uint16_t *slots, size_t slots_len,
+                               const uint8_t *bodies, size_t bodies_len,
+                               uint8_t *out, size_t out_len);
 
 /*
  * Reads a configuration frame: copies the 8 bytes between type and check (req, pre, ben, qen,

@@ -1,21 +1,27 @@
-//! Links libbellacush.a: the proved one, or another that BELLACUSH_ARCHIVE names.
+//! Links libbellacush.a: the proved one, or another that BELLACUSH_ARCHIVE names. And
+//! libmeasured.a, the proved checks alone.
 use std::env;
-use std::path::PathBuf;
+use std::path::{Path, PathBuf};
 
 fn main() {
     println!("cargo:rerun-if-env-changed=BELLACUSH_ARCHIVE");
-    let proved = concat!(
-        env!("CARGO_MANIFEST_DIR"),
-        "/../target/staticlib/libbellacush.a"
+    let proved = Path::new(env!("CARGO_MANIFEST_DIR")).join("../target/staticlib");
+    let archive = env::var_os("BELLACUSH_ARCHIVE").map(PathBuf::from);
+    link(
+        "bellacush",
+        &archive.unwrap_or(proved.join("libbellacush.a")),
     );
-    let archive = PathBuf::from(env::var_os("BELLACUSH_ARCHIVE").unwrap_or(proved.into()));
+    link("measured", &proved.join("libmeasured.a"));
+}
+
+fn link(name: &str, archive: &Path) {
     println!("cargo:rerun-if-changed={}", archive.display());
     assert!(
         archive.is_file(),
-        "no archive {}: run make first",
+        "no archive {}: make test-rust builds it",
         archive.display()
     );
     let folder = archive.parent().expect("an archive stands in a folder");
     println!("cargo:rustc-link-search=native={}", folder.display());
-    println!("cargo:rustc-link-lib=static=bellacush");
+    println!("cargo:rustc-link-lib=static={name}");
 }

@@ -71,11 +71,22 @@ static void constants_are_the_documents(void)
     CHECK(BELLACUSH_BAD_BLOCK_LEN == 6 && BELLACUSH_OUT_TOO_SHORT == 7 && BELLACUSH_BAD_LEN == 8);
     CHECK(BELLACUSH_BAD_TYPE == 9 && BELLACUSH_BAD_CHECK == 10);
     CHECK(BELLACUSH_BAD_GRANT_FIELD == 11 && BELLACUSH_NOBODY_JOINED == 12);
-    CHECK(BELLACUSH_BAD_LEDGER == 13);
+    CHECK(BELLACUSH_BAD_LEDGER == 13 && BELLACUSH_BAD_TRACE == 14);
     CHECK(BELLACUSH_LEDGER_LEN == 1 + 4 * 256 + 16 && BELLACUSH_FIGURES_LEN == 5);
     CHECK(BELLACUSH_ASKED == 0 && BELLACUSH_CONNECTED == 1 && BELLACUSH_FRESH == 2);
     CHECK(BELLACUSH_WITHDRAWN == 3 && BELLACUSH_OPEN == 4);
     CHECK(BELLACUSH_NUMBER(2 * 256 + 12) == 12 && BELLACUSH_ROUNDS(2 * 256 + 12) == 2);
+}
+
+static void measures_of_a_trace_are_the_documents(void)
+{
+    CHECK(BELLACUSH_MOST_BODIES == 1024 && BELLACUSH_MOST_BODY_SLOTS == 360);
+    CHECK(BELLACUSH_HEAD_LEN == 3 && BELLACUSH_HEAD_WORDS == 2 && BELLACUSH_BODY_WORDS == 4);
+    CHECK(BELLACUSH_CONTENTS_LEN(0) == 5 && BELLACUSH_CONTENTS_LEN(1 + 1) == 25);
+    CHECK(BELLACUSH_BODY_LEN(1, 1) == 16 && BELLACUSH_BODY_LEN(8 + 8, 180 + 180) == 63365);
+    CHECK(BELLACUSH_PORTS == 0 && BELLACUSH_BODIES == 1);
+    CHECK(BELLACUSH_FIRST == 0 && BELLACUSH_SLOTS == 1);
+    CHECK(BELLACUSH_OFFSET == 2 && BELLACUSH_LENGTH == 3);
 }
 
 /* Case B of document 01, and the frames that come of it. */
@@ -325,9 +336,192 @@ static void a_ledger_beside_a_slot_loop(void)
     CHECK(shows(ledger, 0, 0, 4, 2, 2, 0, 0) && shows(ledger, 1, 0, 4, 2, 3, 0, 1));
 }
 
+/* The two bodies of the trace below: their first slots and slot counts. */
+static const uint32_t firsts[2] = {4294967295u, 1};
+static const uint16_t counts[2] = {2, 1};
+
+/* Three slots of two ports, with numbers across the wrap, and the trace that records them. */
+struct recorded {
+    uint8_t blocks[3 * 22];
+    uint8_t tables[3 * 32];
+    uint8_t bodies[49 + 27];
+    uint8_t file[25 + 49 + 27 + 1];
+};
+
+static struct recorded record(void)
+{
+    static const uint16_t req[3][2] = {{3, 3}, {1, 1}, {2, 3}};
+    uint8_t state[BELLACUSH_STATE_LEN] = {2, 0, 0, 255, 255, 255, 255};
+    struct recorded r;
+    uint32_t k;
+
+    memset(&r, 0xB7, sizeof r);
+    for (k = 0; k < 3; k++) {
+        struct lent l = asking(2, req[k]);
+        memcpy(l.state, state, sizeof state);
+        CHECK(BELLACUSH_NUMBER(slot(&l, firsts[0] + k, 2)) == BELLACUSH_DONE);
+        memcpy(state, l.state, sizeof state);
+        memcpy(r.blocks + 22 * k, l.block, 22);
+        memcpy(r.tables + 32 * k, l.table, 32);
+    }
+    CHECK(bellacush_seal_body(2, 2, 2, 0, 0, r.blocks, 44, r.bodies, 76) == BELLACUSH_DONE);
+    CHECK(r.bodies[49] == 0xB7);
+    CHECK(bellacush_seal_body(2, 1, 2, 0, 1, r.blocks + 44, 22, r.bodies + 49, 27) ==
+          BELLACUSH_DONE);
+    CHECK(bellacush_write_trace(2, firsts, 2, counts, 2, r.bodies, 76, r.file, sizeof r.file) ==
+          BELLACUSH_DONE);
+    CHECK(r.file[101] == 0xB7);
+    return r;
+}
+
+static void a_trace_stands_as_the_header_says(void)
+{
+    static const uint8_t contents[25] = {2, 0, 2, 255, 255, 255, 255, 0, 2, 0, 0, 0, 25,
+                                         0, 0, 0, 1, 0, 1, 0, 0, 0, 74, 0x9D, 0x03};
+    static const uint8_t empty[5] = {1, 0, 0, 0xFB, 0xAC};
+    static const uint8_t fields[2][3] = {{2, 0, 0}, {2, 0, 1}};
+    struct recorded r = record();
+    uint32_t shown[2] = {7, 7}, place[4] = {7, 7, 7, 7};
+    uint8_t out[6] = {7, 7, 7, 7, 7, 7};
+
+    CHECK(memcmp(r.file, contents, sizeof contents) == 0);
+    CHECK(memcmp(r.file + 25, r.bodies, sizeof r.bodies) == 0);
+    CHECK(memcmp(r.file + 25, fields[0], 3) == 0 && memcmp(r.file + 28, r.blocks, 44) == 0);
+    CHECK(memcmp(r.file + 74, fields[1], 3) == 0 && memcmp(r.file + 77, r.blocks + 44, 22) == 0);
+    CHECK(bellacush_trace(r.file, 101, shown, 2) == BELLACUSH_DONE);
+    CHECK(shown[BELLACUSH_PORTS] == 2 && shown[BELLACUSH_BODIES] == 2);
+    CHECK(bellacush_trace_body(r.file, 101, 1, place, 4) == BELLACUSH_DONE);
+    CHECK(place[BELLACUSH_FIRST] == 1 && place[BELLACUSH_SLOTS] == 1);
+    CHECK(place[BELLACUSH_OFFSET] == 74 && place[BELLACUSH_LENGTH] == 27);
+    CHECK(bellacush_write_trace(1, NULL, 0, NULL, 0, NULL, 0, out, 6) == BELLACUSH_DONE);
+    CHECK(memcmp(out, empty, 5) == 0 && out[5] == 7);
+    CHECK(bellacush_trace(empty, 5, shown, 2) == BELLACUSH_DONE);
+    CHECK(shown[BELLACUSH_PORTS] == 1 && shown[BELLACUSH_BODIES] == 0);
+}
+
+/* The way through a file that the header shows. */
+static void a_trace_is_replayed_body_by_body(void)
+{
+    struct recorded r = record();
+    uint32_t shown[2] = {7, 7}, place[4], k;
+    uint8_t tables[3 * 32 + 1], *next = tables;
+
+    memset(tables, 0xB7, sizeof tables);
+    CHECK(bellacush_contents(r.file, 25, 101, shown, 2) == BELLACUSH_DONE);
+    CHECK(shown[BELLACUSH_PORTS] == 2 && shown[BELLACUSH_BODIES] == 2);
+    for (k = 0; k < 2; k++) {
+        CHECK(bellacush_entry(r.file, 25, k, place, 4) == BELLACUSH_DONE);
+        CHECK(place[BELLACUSH_FIRST] == firsts[k] && place[BELLACUSH_SLOTS] == counts[k]);
+        CHECK(bellacush_replay(2, place[BELLACUSH_FIRST], place[BELLACUSH_SLOTS],
+                               r.file + place[BELLACUSH_OFFSET], place[BELLACUSH_LENGTH], next,
+                               (size_t)(tables + sizeof tables - next)) == BELLACUSH_DONE);
+        next += 32 * place[BELLACUSH_SLOTS];
+    }
+    CHECK(memcmp(tables, r.tables, sizeof r.tables) == 0 && *next == 0xB7);
+}
+
+static void what_is_no_trace_is_refused(void)
+{
+    struct recorded r = record();
+    uint32_t shown[3] = {7, 7, 7}, place[5] = {7, 7, 7, 7, 7};
+
+    CHECK(bellacush_trace(r.file, 100, shown, 3) == BELLACUSH_BAD_LEN);
+    CHECK(bellacush_trace(r.file, 101, NULL, 0) == BELLACUSH_BAD_LEN);
+    CHECK(bellacush_trace(NULL, 0, shown, 2) == BELLACUSH_BAD_TRACE);
+    CHECK(bellacush_trace(r.file, 100, shown, 2) == BELLACUSH_BAD_TRACE);
+    CHECK(bellacush_trace(r.file, 102, shown, 2) == BELLACUSH_BAD_TRACE);
+    CHECK(bellacush_trace_body(r.file, 101, 2, place, 3) == BELLACUSH_BAD_LEN);
+    CHECK(bellacush_trace_body(r.file, 101, 2, place, 4) == BELLACUSH_BAD_TRACE);
+    CHECK(bellacush_trace_body(r.file, 100, 0, place, 4) == BELLACUSH_BAD_TRACE);
+    CHECK(bellacush_contents(r.file, 24, 101, shown, 1) == BELLACUSH_BAD_LEN);
+    CHECK(bellacush_contents(r.file, 24, 101, shown, 2) == BELLACUSH_BAD_TRACE);
+    CHECK(bellacush_contents(r.file, 25, 102, shown, 2) == BELLACUSH_BAD_TRACE);
+    CHECK(bellacush_entry(r.file, 25, 2, place, 5) == BELLACUSH_BAD_LEN);
+    CHECK(bellacush_entry(r.file, 25, 2, place, 4) == BELLACUSH_BAD_TRACE);
+    CHECK(bellacush_entry(r.file, 22, 1, place, 4) == BELLACUSH_BAD_TRACE);
+    CHECK(bellacush_entry(NULL, 0, 0, place, 4) == BELLACUSH_BAD_TRACE);
+    r.file[90] ^= 1;
+    CHECK(bellacush_trace(r.file, 101, shown, 2) == BELLACUSH_BAD_TRACE);
+    CHECK(bellacush_trace_body(r.file, 101, 0, place, 4) == BELLACUSH_BAD_TRACE);
+    CHECK(shown[0] == 7 && shown[1] == 7 && place[0] == 7 && place[3] == 7);
+    CHECK(bellacush_contents(r.file, 101, 101, shown, 2) == BELLACUSH_DONE);
+    r.file[3] ^= 1; /* an entry is shown as it stands, though its check is wrong now */
+    CHECK(bellacush_contents(r.file, 101, 101, shown, 2) == BELLACUSH_BAD_TRACE);
+    CHECK(bellacush_entry(r.file, 13, 0, place, 4) == BELLACUSH_DONE && place[0] == 0xFEFFFFFF);
+}
+
+static void what_is_no_body_is_not_replayed(void)
+{
+    struct recorded r = record();
+    uint8_t t[64], kept[64];
+
+    memset(t, 0xB7, sizeof t);
+    memcpy(kept, t, sizeof kept);
+    CHECK(bellacush_replay(0, 9, 2, r.bodies, 49, t, 64) == BELLACUSH_BAD_TRACE);
+    CHECK(bellacush_replay(17, 9, 2, r.bodies, 49, t, 64) == BELLACUSH_BAD_TRACE);
+    CHECK(bellacush_replay(2, 9, 0, r.bodies, 49, t, 64) == BELLACUSH_BAD_TRACE);
+    CHECK(bellacush_replay(2, 9, 361, r.bodies, 49, t, 64) == BELLACUSH_BAD_TRACE);
+    CHECK(bellacush_replay(2, 9, 2, r.bodies, 48, t, 63) == BELLACUSH_BAD_TRACE);
+    CHECK(bellacush_replay(2, 9, 2, NULL, 0, NULL, 0) == BELLACUSH_BAD_TRACE);
+    CHECK(bellacush_replay(2, 9, 2, r.bodies, 49, t, 63) == BELLACUSH_OUT_TOO_SHORT);
+    CHECK(bellacush_replay(2, 9, 2, r.bodies, 49, NULL, 0) == BELLACUSH_OUT_TOO_SHORT);
+    r.bodies[48] ^= 1;
+    CHECK(bellacush_replay(2, 9, 2, r.bodies, 49, t, 64) == BELLACUSH_BAD_TRACE);
+    CHECK(memcmp(t, kept, sizeof t) == 0);
+}
+
+static void what_is_no_body_is_not_sealed(void)
+{
+    struct recorded r = record();
+    uint8_t out[50], kept[50];
+
+    memset(out, 0xB7, sizeof out);
+    memcpy(kept, out, sizeof kept);
+    CHECK(bellacush_seal_body(0, 2, 0, 0, 0, r.blocks, 44, out, 50) == BELLACUSH_BAD_TRACE);
+    CHECK(bellacush_seal_body(17, 2, 0, 0, 0, r.blocks, 44, out, 50) == BELLACUSH_BAD_TRACE);
+    CHECK(bellacush_seal_body(2, 0, 0, 0, 0, NULL, 0, out, 50) == BELLACUSH_BAD_TRACE);
+    CHECK(bellacush_seal_body(2, 361, 0, 0, 0, r.blocks, 44, out, 50) == BELLACUSH_BAD_TRACE);
+    CHECK(bellacush_seal_body(2, 2, 17, 0, 0, r.blocks, 44, out, 50) == BELLACUSH_BAD_TRACE);
+    CHECK(bellacush_seal_body(2, 2, 0, 2, 0, r.blocks, 44, out, 50) == BELLACUSH_BAD_TRACE);
+    CHECK(bellacush_seal_body(2, 2, 0, 0, 2, r.blocks, 44, out, 50) == BELLACUSH_BAD_TRACE);
+    CHECK(bellacush_seal_body(2, 2, 0, 0, 0, r.blocks, 43, out, 48) == BELLACUSH_BAD_TRACE);
+    CHECK(bellacush_seal_body(2, 2, 0, 0, 0, r.blocks, 44, out, 48) == BELLACUSH_OUT_TOO_SHORT);
+    CHECK(bellacush_seal_body(2, 2, 0, 0, 0, r.blocks, 44, NULL, 0) == BELLACUSH_OUT_TOO_SHORT);
+    CHECK(memcmp(out, kept, sizeof out) == 0);
+    CHECK(bellacush_seal_body(2, 2, 2, 0, 0, r.blocks, 44, out, 50) == BELLACUSH_DONE);
+    CHECK(memcmp(out, r.bodies, 49) == 0 && out[49] == 0xB7);
+}
+
+static void what_is_no_trace_is_not_written(void)
+{
+    static const uint16_t swapped[2] = {1, 2}, none[2] = {2, 0};
+    struct recorded r = record();
+    const uint8_t *b = r.bodies;
+    uint8_t out[101], kept[101];
+
+    memset(out, 0xB7, sizeof out);
+    memcpy(kept, out, sizeof kept);
+    CHECK(bellacush_write_trace(0, firsts, 2, counts, 2, b, 76, out, 101) == BELLACUSH_BAD_TRACE);
+    CHECK(bellacush_write_trace(3, firsts, 2, counts, 2, b, 76, out, 101) == BELLACUSH_BAD_TRACE);
+    CHECK(bellacush_write_trace(2, firsts, 1, counts, 2, b, 76, out, 101) == BELLACUSH_BAD_TRACE);
+    CHECK(bellacush_write_trace(2, firsts, 1, counts, 1, b, 76, out, 101) == BELLACUSH_BAD_TRACE);
+    CHECK(bellacush_write_trace(2, firsts, 2, swapped, 2, b, 76, out, 101) == BELLACUSH_BAD_TRACE);
+    CHECK(bellacush_write_trace(2, firsts, 2, none, 2, b, 49, out, 101) == BELLACUSH_BAD_TRACE);
+    CHECK(bellacush_write_trace(2, firsts, 2, counts, 2, b, 75, out, 99) == BELLACUSH_BAD_TRACE);
+    CHECK(bellacush_write_trace(2, firsts, 2, counts, 2, b, 76, out, 100) ==
+          BELLACUSH_OUT_TOO_SHORT);
+    r.bodies[75] ^= 1;
+    CHECK(bellacush_write_trace(2, firsts, 2, counts, 2, b, 76, out, 101) == BELLACUSH_BAD_TRACE);
+    CHECK(memcmp(out, kept, sizeof out) == 0);
+    r.bodies[75] ^= 1;
+    CHECK(bellacush_write_trace(2, firsts, 2, counts, 2, b, 76, out, 101) == BELLACUSH_DONE);
+    CHECK(memcmp(out, r.file, sizeof out) == 0);
+}
+
 int main(void)
 {
     constants_are_the_documents();
+    measures_of_a_trace_are_the_documents();
     central_slot_is_served();
     distributed_slot_is_served();
     a_copy_is_refused_and_changes_nothing();
@@ -339,6 +533,12 @@ int main(void)
     a_ledger_counts_a_request_once();
     a_ledger_that_cannot_be_is_refused();
     a_ledger_beside_a_slot_loop();
+    a_trace_stands_as_the_header_says();
+    a_trace_is_replayed_body_by_body();
+    what_is_no_trace_is_refused();
+    what_is_no_body_is_not_replayed();
+    what_is_no_body_is_not_sealed();
+    what_is_no_trace_is_not_written();
     printf("%u passed, %u failed\n", passed, failed);
     return failed == 0 ? 0 : 1;
 }

@@ -84,6 +84,64 @@ extern "C" {
         figures: *mut u32,
         figures_len: usize,
     ) -> u32;
+    fn bellacush_trace(
+        file: *const c_uchar,
+        file_len: usize,
+        shown: *mut u32,
+        shown_len: usize,
+    ) -> u32;
+    fn bellacush_trace_body(
+        file: *const c_uchar,
+        file_len: usize,
+        k: u32,
+        place: *mut u32,
+        place_len: usize,
+    ) -> u32;
+    fn bellacush_contents(
+        start: *const c_uchar,
+        start_len: usize,
+        file_len: usize,
+        shown: *mut u32,
+        shown_len: usize,
+    ) -> u32;
+    fn bellacush_entry(
+        start: *const c_uchar,
+        start_len: usize,
+        k: u32,
+        place: *mut u32,
+        place_len: usize,
+    ) -> u32;
+    fn bellacush_replay(
+        n: u32,
+        first: u32,
+        slots: u32,
+        body: *const c_uchar,
+        body_len: usize,
+        tables: *mut c_uchar,
+        tables_len: usize,
+    ) -> u32;
+    fn bellacush_seal_body(
+        n: u32,
+        slots: u32,
+        mode: u32,
+        i: u32,
+        j: u32,
+        blocks: *const c_uchar,
+        blocks_len: usize,
+        out: *mut c_uchar,
+        out_len: usize,
+    ) -> u32;
+    fn bellacush_write_trace(
+        n: u32,
+        firsts: *const u32,
+        firsts_len: usize,
+        slots: *const u16,
+        slots_len: usize,
+        bodies: *const c_uchar,
+        bodies_len: usize,
+        out: *mut c_uchar,
+        out_len: usize,
+    ) -> u32;
 }
 
 /// The library's slot call itself, for those who call it in a way of their own.
@@ -201,6 +259,100 @@ pub fn figures(ledger: &[u32], initiator: u32, target: u32, figures: &mut [u32])
             target,
             figures.as_mut_ptr(),
             figures.len(),
+        )
+    }
+}
+
+pub fn trace(file: &[u8], shown: &mut [u32]) -> u32 {
+    unsafe { bellacush_trace(file.as_ptr(), file.len(), shown.as_mut_ptr(), shown.len()) }
+}
+
+pub fn trace_body(file: &[u8], k: u32, place: &mut [u32]) -> u32 {
+    unsafe {
+        bellacush_trace_body(
+            file.as_ptr(),
+            file.len(),
+            k,
+            place.as_mut_ptr(),
+            place.len(),
+        )
+    }
+}
+
+pub fn contents(start: &[u8], file_len: usize, shown: &mut [u32]) -> u32 {
+    unsafe {
+        bellacush_contents(
+            start.as_ptr(),
+            start.len(),
+            file_len,
+            shown.as_mut_ptr(),
+            shown.len(),
+        )
+    }
+}
+
+pub fn entry(start: &[u8], k: u32, place: &mut [u32]) -> u32 {
+    unsafe {
+        bellacush_entry(
+            start.as_ptr(),
+            start.len(),
+            k,
+            place.as_mut_ptr(),
+            place.len(),
+        )
+    }
+}
+
+pub fn replay(n: u32, first: u32, slots: u32, body: &[u8], tables: &mut [u8]) -> u32 {
+    unsafe {
+        bellacush_replay(
+            n,
+            first,
+            slots,
+            body.as_ptr(),
+            body.len(),
+            tables.as_mut_ptr(),
+            tables.len(),
+        )
+    }
+}
+
+pub fn seal_body(
+    n: u32,
+    slots: u32,
+    mode: u32,
+    i: u32,
+    j: u32,
+    blocks: &[u8],
+    out: &mut [u8],
+) -> u32 {
+    unsafe {
+        bellacush_seal_body(
+            n,
+            slots,
+            mode,
+            i,
+            j,
+            blocks.as_ptr(),
+            blocks.len(),
+            out.as_mut_ptr(),
+            out.len(),
+        )
+    }
+}
+
+pub fn write_trace(n: u32, firsts: &[u32], slots: &[u16], bodies: &[u8], out: &mut [u8]) -> u32 {
+    unsafe {
+        bellacush_write_trace(
+            n,
+            firsts.as_ptr(),
+            firsts.len(),
+            slots.as_ptr(),
+            slots.len(),
+            bodies.as_ptr(),
+            bodies.len(),
+            out.as_mut_ptr(),
+            out.len(),
         )
     }
 }

@@ -56,7 +56,7 @@ pub fn sealed(mut bytes: Vec<u8>) -> Vec<u8> {
     bytes
 }
 
-fn check_is_right(frame: &[u8]) -> bool {
+pub(crate) fn check_is_right(frame: &[u8]) -> bool {
     let (body, end) = frame.split_at(frame.len() - 2);
     check(body).to_be_bytes() == end
 }

@@ -13,6 +13,10 @@ impl Unit for u8 {
     const GUARD: u8 = 0xC3;
 }
 
+impl Unit for u16 {
+    const GUARD: u16 = 0xC3C3;
+}
+
 impl Unit for u32 {
     const GUARD: u32 = 0xC3C3_C3C3;
 }

@@ -1,5 +1,5 @@
 //! What documents 01 and 02 promise of each call of the C form, over our own frames and
-//! scheduler; the ledger's calls are in a module of their own.
+//! scheduler; the calls of the ledger and of traces are in modules of their own.
 
 use crate::frames::{Config, Grant, CONFIG_LEN, GRANT_LEN};
 use crate::scheduler::{self, schedule, Matrix, Mode, Position, Schedule, MOST_PORTS};
@@ -60,7 +60,7 @@ fn served(call: &Slot) -> After {
     after
 }
 
-fn hosts(block: &[u8]) -> Vec<Option<Config>> {
+pub(crate) fn hosts(block: &[u8]) -> Vec<Option<Config>> {
     block
         .chunks(CONFIG_LEN)
         .map(|frame| Config::read(frame).ok())
@@ -81,7 +81,7 @@ fn advanced(state: State) -> State {
     next
 }
 
-fn table(matrix: &Matrix) -> Vec<u8> {
+pub(crate) fn table(matrix: &Matrix) -> Vec<u8> {
     let weigh = |row: &[bool], from: usize| -> u8 {
         (0..8).map(|bit| u8::from(row[from + bit]) << bit).sum()
     };
@@ -149,7 +149,7 @@ pub fn write_grant(grant: Grant, out: &[u8]) -> (u32, Vec<u8>) {
     written(grant.frame(), out)
 }
 
-fn written(frame: Vec<u8>, out: &[u8]) -> (u32, Vec<u8>) {
+pub(crate) fn written(frame: Vec<u8>, out: &[u8]) -> (u32, Vec<u8>) {
     if out.len() < frame.len() {
         return (7, out.to_vec());
     }
