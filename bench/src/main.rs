@@ -3,14 +3,18 @@
 #[cfg(before)]
 mod before;
 mod feeds;
+mod long_checks;
 mod plain;
+mod plain_check;
 mod plain_ledger;
+mod replays;
 mod stack;
 mod timing;
 mod traces;
 
 use bellacush_tests::calls::{self, SlotCall};
 use bellacush_tests::frames::Config;
+use bellacush_tests::measured;
 use bellacush_tests::traffic::Traffic;
 use std::hint::black_box;
 use timing::{compare, Times, BATCHES, BATCH_MILLISECONDS};
@@ -35,8 +39,10 @@ fn main() {
     println!("trace alike. Limits: 8.5 µs a slot, and a ratio of 2.0 to the plain Rust slot.");
     slots();
     checks();
+    long_checks::section();
     growth();
     feeds::section();
+    replays::section();
     stacks();
     #[cfg(before)]
     before::compared();
@@ -125,24 +131,6 @@ fn check_row(work: &str, times: Times, limited: bool) {
     println!("| {work} | {ours:.3} | {rust:.3} | {ratio:.2} | {limit} |");
 }
 
-/// The proved checks, as the benchmark's own archive exports them.
-mod proved {
-    extern "C" {
-        fn measured_crc(bytes: *const u8, len: usize) -> u16;
-        fn measured_checks(bytes: *const u8, len: usize) -> u16;
-    }
-
-    pub fn check(bytes: &[u8]) -> u16 {
-        // sound: the callee reads just the bytes that pointer and length show
-        unsafe { measured_crc(bytes.as_ptr(), bytes.len()) }
-    }
-
-    pub fn checks(bytes: &[u8]) -> u16 {
-        // sound: as above
-        unsafe { measured_checks(bytes.as_ptr(), bytes.len()) }
-    }
-}
-
 #[inline(never)]
 fn rust_check(bytes: &[u8]) -> u16 {
     plain::check(bytes)
@@ -160,11 +148,11 @@ fn checked_bytes() -> Vec<u8> {
 
 fn checking_at_once() -> Times {
     let bytes = checked_bytes();
-    assert_eq!(proved::checks(&bytes), rust_checks(&bytes));
+    assert_eq!(measured::checks(&bytes), rust_checks(&bytes));
     compare(
         1,
         || {
-            black_box(proved::checks(black_box(&bytes)));
+            black_box(measured::checks(black_box(&bytes)));
         },
         || {
             black_box(rust_checks(black_box(&bytes)));
@@ -182,8 +170,8 @@ fn checking_each() -> Times {
     };
     assert!(bytes
         .chunks(9)
-        .all(|part| proved::check(part) == rust_check(part)));
-    compare(1, || pass(proved::check), || pass(rust_check))
+        .all(|part| measured::check(part) == rust_check(part)));
+    compare(1, || pass(measured::check), || pass(rust_check))
 }
 
 fn reading() -> Times {
