@@ -6,14 +6,14 @@ use Prim.Native.Nat.{ℕ, _^_, _≤_}
 use lib.Dec.{ltb, leb}
 use lib.ListN.{length, replicate}
 use native.Mathlib.Omega.{arith}
-use borrow.Author.Tests.{ltb-false, leb-false}
+use borrow.Author.Tests.{ltb-false, leb-false, eq-eqb}
 use Rattle.laws.proofs.Tests.{neither}
 use Rattle.lcf.specs.Ready.{Ready}
 use Rattle.lcf.specs.Planned.{planned}
-use Rattle.lcf.specs.Slot.{within, start, behind, wrongLimit, dueNumber}
+use Rattle.lcf.specs.Slot.{within, start, matched, behind, wrongLimit, dueNumber, slotOnTables, orderly, startDue, finishDue}
 use Rattle.lcf.specs.declared.state.State.{State}
 use Rattle.lcf.specs.declared.state.Mode.{Mode}
-use Rattle.lcf.specs.declared.state.Mode.the-variants.{Distributed}
+use Rattle.lcf.specs.declared.state.Mode.the-variants.{Central, Distributed}
 use Rattle.lcf.specs.declared.work.Work.{Work}
 
 -- rules 3 and 4 on rows of m
@@ -49,3 +49,23 @@ served m st slot mode e =
 pub limit-fits : (m limit : ℕ) (mode : Mode) → mode ≡ Distributed limit → wrongLimit m mode ≡ false → limit ≤ m
 unfolding wrongLimit
 limit-fits m limit mode e h = ltb-false m limit (neither (ltb limit 1) (ltb m limit) (sym (ap (wrongLimit m) e) ∙ h) .1)
+
+on-time : (st : State) → behind st (st .due) ≡ 0
+unfolding behind
+on-time st = omega arith
+
+-- a state that is served in a slot is in order for the slot that is due
+due-now : (m : ℕ) (st : State) (slot : ℕ) (mode other : Mode) → dueNumber m st slot mode ≡ 0 → wrongLimit m other ≡ false → dueNumber m st (st .due) other ≡ 0
+unfolding dueNumber
+due-now m st slot mode other e limit =
+    let n = st .ports in
+    let late = behind st slot in
+    let p = passed (ltb n 1 || ltb m n) (leb n (st .initiator .0) || leb n (st .target .0)) (leb 1 late && leb late (2 ^ 31)) (ltb (2 ^ 31) late) (wrongLimit m mode) e in
+    rw (on-time st, p .0, p .1, limit)
+
+-- a slot in two calls is the slot on tables, if its number is 0
+pub in-two : (m : ℕ) (st : State) (slot : ℕ) (mode : Mode) (req pre : List ℕ) → dueNumber m st slot mode ≡ 0
+    → finishDue m st mode (startDue m st req pre) ≡ slotOnTables m st slot mode req pre
+unfolding orderly finishDue slotOnTables matched wrongLimit
+in-two m st slot mode req pre due =
+    rw (eq-eqb _ 0 (due-now m st slot mode Central due refl), eq-eqb _ 0 (due-now m st slot mode mode due (served m st slot mode due .limit)), eq-eqb _ 0 due)

@@ -7,6 +7,7 @@ use Rattle.lcf.specs.declared.state.Fresh.{Fresh}
 use Rattle.lcf.specs.declared.state.Mode.{Mode}
 use Rattle.lcf.specs.declared.heard.Tables.{Tables}
 use Rattle.lcf.specs.declared.work.Stepped.{Stepped}
+use Rattle.lcf.specs.declared.work.Work.{Work}
 use Rattle.lcf.proofs.state.State.fresh.Reads as fresh
 use Rattle.lcf.proofs.state.State.empty_table.Reads as empty-table
 use Rattle.lcf.proofs.state.mode_of.Reads as mode-of
@@ -15,6 +16,8 @@ use Rattle.lcf.proofs.sets.within.Reads as within
 use Rattle.lcf.proofs.slot.due_number.Reads as due-number
 use Rattle.lcf.proofs.slot.declined.Reads as declined
 use Rattle.lcf.proofs.slot.slot_on_tables.Reads as slot-on-tables
+use Rattle.lcf.proofs.slot.start_due.Reads as start-due
+use Rattle.lcf.proofs.slot.finish_due.Reads as finish-due
 
 pub fresh-once : (κs a : _) (r s : Fresh) (x y : _) → fresh.Learnt κs a r x → fresh.Learnt κs a s y → r ≡ s
 fresh-once κs a r s x y p q = the-result p q
@@ -39,3 +42,9 @@ declined-once κs a r s x y p q = the-result p q
 
 pub slot-on-tables-once : (κs a : _) (r s : Stepped) (x y : _) → slot-on-tables.Learnt κs a r x → slot-on-tables.Learnt κs a s y → r ≡ s
 slot-on-tables-once κs a r s x y p q = the-result p q
+
+pub start-due-once : (κs a : _) (r s : Work) (x y : _) → start-due.Learnt κs a r x → start-due.Learnt κs a s y → r ≡ s
+start-due-once κs a r s x y p q = the-result p q
+
+pub finish-due-once : (κs a : _) (r s : Stepped) (x y : _) → finish-due.Learnt κs a r x → finish-due.Learnt κs a s y → r ≡ s
+finish-due-once κs a r s x y p q = the-result p q

@@ -62,3 +62,16 @@ ended m st r = cond (r .stuck) (declined m st 12) (record { state = advance st; 
 unfoldable pub slotOnTables : ℕ → State → ℕ → Mode → List ℕ → List ℕ → Stepped
 slotOnTables m st slot mode req pre =
     cond (eqb (dueNumber m st slot mode) 0) (ended m st (matched st mode req pre)) (declined m st (dueNumber m st slot mode))
+
+-- the state, and one of a single port where 1 or 2 declines it
+unfoldable pub orderly : ℕ → State → State
+orderly m st =
+    cond (eqb (dueNumber m st (st .due) Central) 0) st (record { ports = 1; initiator = record { 0 = 0 }; target = record { 0 = 0 }; due = st .due })
+
+-- the slot that is due, in two calls: up to the live requests, and from there on
+abbrev pub startDue : ℕ → State → List ℕ → List ℕ → Work
+startDue m st = start (orderly m st)
+
+unfoldable pub finishDue : ℕ → State → Mode → Work → Stepped
+finishDue m st mode s =
+    cond (eqb (dueNumber m st (st .due) mode) 0) (ended m st (serveMode st mode s)) (declined m st (dueNumber m st (st .due) mode))

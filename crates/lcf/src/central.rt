@@ -24,7 +24,8 @@ fn winner(live: Table, n: usize, t: Target, a: Initiator) -> Initiator
     if holds(live[at], t.0) {
         a
     } else {
-        Initiator(choose(column(live, n, t), sizes(live), n, at))
+        let counts = sizes(&live);
+        Initiator(choose(column(&live, n, t), &counts, n, at))
     }
 }
 

@@ -1,5 +1,6 @@
 // The choice of rules 3, 5 and 6, and where its rotation starts.
 use crate::sets::clip;
+use crate::state::Counts;
 use crate::state::Initiator;
 use crate::state::Moved;
 use crate::state::Set;
@@ -47,14 +48,7 @@ pub(crate) fn first_target(state: State, i: Initiator) -> Target
     Target(turned(state.ports, state.target.0, i.0, state.initiator.0))
 }
 
-fn contend(
-    among: Set,
-    numbers: &[u32; State::MOST],
-    n: usize,
-    from: usize,
-    k: usize,
-    best: usize,
-) -> usize
+fn contend(among: Set, numbers: &Counts, n: usize, from: usize, k: usize, best: usize) -> usize
     requires { ⌜ (n ≤ mostPorts) × (from < n) × (k < n) × (best < n) ⌝ }
     ensures { λ r. ⌜ (r ≡ better (has among) (λ x. getD (now (numbers .entry)) x 0) (place n from k) best) × (r < n) ⌝ }
 {
@@ -83,7 +77,7 @@ fn rotated(among: Set, n: usize, from: usize) -> Moved
 }
 
 // To the next member at once: who does not ask costs no time.
-fn next(among: Set, numbers: &[u32; State::MOST], n: usize, from: usize, scan: Scan) -> Scan
+fn next(among: Set, numbers: &Counts, n: usize, from: usize, scan: Scan) -> Scan
     requires { ⌜ (n ≤ mostPorts) × (from < n) × (scan .left ≡ 0 → ⊥) × (Scanned (has among) (λ x. getD (now numbers) x 0) n from scan) ⌝ }
     ensures { λ r. ⌜ (r .left < scan .left) × (Scanned (has among) (λ x. getD (now (numbers .entry)) x 0) n from r) ⌝ }
 {
@@ -96,9 +90,9 @@ fn next(among: Set, numbers: &[u32; State::MOST], n: usize, from: usize, scan: S
     }
 }
 
-pub(crate) fn choose(among: Set, numbers: [u32; State::MOST], n: usize, from: usize) -> usize
+pub(crate) fn choose(among: Set, numbers: &Counts, n: usize, from: usize) -> usize
     requires { ⌜ (n ≤ mostPorts) × (from < n) ⌝ }
-    ensures { λ r. ⌜ (r ≡ choice (has among) (λ x. getD numbers x 0) n from) × (r < n) ⌝ }
+    ensures { λ r. ⌜ (r ≡ choice (has among) (λ x. getD (now (numbers .entry)) x 0) n from) × (r < n) ⌝ }
 {
     let mut scan = Scan {
         left: rotated(among, n, from),
@@ -106,7 +100,7 @@ pub(crate) fn choose(among: Set, numbers: [u32; State::MOST], n: usize, from: us
         best: from,
     };
     while scan.left != 0 {
-        scan = next(among, &numbers, n, from, scan);
+        scan = next(among, numbers, n, from, scan);
     }
     scan.best
 }

@@ -3,10 +3,11 @@ use crate::choice::choose;
 use crate::choice::first_initiator;
 use crate::choice::first_target;
 use crate::join::join;
-use crate::join::join_live;
 use crate::sets::column;
+use crate::sets::full;
 use crate::sets::gather;
 use crate::sets::sizes;
+use crate::state::Counts;
 use crate::state::Initiator;
 use crate::state::Set;
 use crate::state::State;
@@ -17,9 +18,11 @@ use crate::work::Run;
 use crate::work::Work;
 use words::holds;
 ghost use mathlib.Core.Path.{_≡_};
+ghost use mathlib.Core.Bool.{not, _&&_};
 ghost use Prim.Native.Nat.{_+_, _<_, _≤_};
 ghost use Rattle.frames.specs.Part.{mostPorts};
 ghost use Rattle.lcf.specs.Ready.{Ready};
+ghost use Rattle.lcf.specs.Join.{joinLive};
 ghost use Rattle.lcf.specs.Distributed.{
   askers,
   round,
@@ -29,10 +32,11 @@ ghost use Rattle.lcf.specs.Distributed.{
 };
 ghost use Rattle.lcf.specs.Offers.{granted, Offers, accept};
 
-fn askers(state: State, live: Table) -> Table
+fn askers(state: State, live: &Table) -> Table
     requires { ⌜ Ready mostPorts state ⌝ }
-    ensures { λ r. ⌜ r ≡ askers state live ⌝ }
+    ensures { λ r. ⌜ r ≡ askers state (now (live .entry)) ⌝ }
 {
+    full(*live);
     let n = state.ports;
     let mut asked = State::empty_table();
     for t in 0..n {
@@ -41,38 +45,33 @@ fn askers(state: State, live: Table) -> Table
     asked
 }
 
-fn grant(state: State, asking: Set, counts: [u32; State::MOST], t: Target) -> Initiator
+fn grant(state: State, asking: Set, counts: &Counts, t: Target) -> Initiator
     requires { ⌜ (Ready mostPorts state) × (t .0 < state .ports) ⌝ }
-    ensures { λ r. ⌜ (r .0 ≡ granted state asking counts (t .0)) × (r .0 < state .ports) ⌝ }
+    ensures { λ r. ⌜ (r .0 ≡ granted state asking (now (counts .entry)) (t .0)) × (r .0 < state .ports) ⌝ }
 {
     let from = first_initiator(state, t);
     Initiator(choose(asking, counts, state.ports, from.0))
 }
 
-fn offers(state: State, live: Table, asked: Table) -> Table
-    requires { ⌜ (Ready mostPorts state) × (asked ≡ askers state live) ⌝ }
-    ensures { λ r. ⌜ Offers state live r ⌝ }
+fn offers(state: State, live: &Table, asked: &Table) -> Table
+    requires { ⌜ (Ready mostPorts state) × (now asked ≡ askers state (now live)) ⌝ }
+    ensures { λ r. ⌜ Offers state (now (live .entry)) r ⌝ }
 {
+    full(*live);
     let n = state.ports;
     let counts = sizes(live);
     let mut offered = State::empty_table();
     for t in 0..n {
-        let i = grant(state, asked[t], counts, Target(t));
+        let i = grant(state, asked[t], &counts, Target(t));
         let at = i.0;
         offered[at] = gather(offered[at], live[at], t, Target(t));
     }
     offered
 }
 
-fn accept(
-    state: State,
-    counts: [u32; State::MOST],
-    offered: Set,
-    i: Initiator,
-    current: Round,
-) -> Round
+fn accept(state: State, counts: &Counts, offered: Set, i: Initiator, current: Round) -> Round
     requires { ⌜ (Ready mostPorts state) × (i .0 < state .ports) ⌝ }
-    ensures { λ r. ⌜ r ≡ accept state counts offered (i .0) current ⌝ }
+    ensures { λ r. ⌜ r ≡ accept state (now (counts .entry)) offered (i .0) current ⌝ }
 {
     let from = first_target(state, i);
     let t = Target(choose(offered, counts, state.ports, from.0));
@@ -87,22 +86,21 @@ fn accept(
     }
 }
 
-// All goes by the requests as the round began.
+// All goes by the requests as the round began: what they say is read before the first pair is joined.
 fn round(state: State, work: Work) -> Round
     requires { ⌜ Ready mostPorts state ⌝ }
     ensures { λ r. ⌜ r ≡ round state work ⌝ }
 {
     let n = state.ports;
-    let live = work.live;
-    let asked = askers(state, live);
-    let offered = offers(state, live, asked);
-    let counts = sizes(asked);
     let mut current = Round {
         work,
         joined: false,
     };
+    let asked = askers(state, &current.work.live);
+    let offered = offers(state, &current.work.live, &asked);
+    let counts = sizes(&asked);
     for i in 0..n {
-        current = accept(state, counts, offered[i], Initiator(i), current);
+        current = accept(state, &counts, offered[i], Initiator(i), current);
     }
     current
 }
@@ -118,13 +116,22 @@ pub(crate) fn any_live(live: Table, n: usize) -> bool
     found
 }
 
+// A live request remains, and no round has joined nobody.
+fn goes_on(state: State, run: Run) -> bool
+    requires { ⌜ Ready mostPorts state ⌝ }
+    ensures { λ r. ⌜ r ≡ (anyLive (run .work .live) (state .ports) && not (run .stuck)) ⌝ }
+{
+    let work = run.work;
+    let live = work.live;
+    any_live(live, state.ports) & !run.stuck
+}
+
 fn one_more(state: State, run: Run) -> Run
     requires { ⌜ (Ready mostPorts state) × (run .rounds < mostPorts) ⌝ }
     ensures { λ r. ⌜ (r ≡ oneMore state run) × (r .rounds ≤ run .rounds + 1) ⌝ }
 {
-    let work = run.work;
-    let live = work.live;
-    if any_live(live, state.ports) & !run.stuck {
+    if goes_on(state, run) {
+        let work = run.work;
         let after = round(state, work);
         let work = after.work;
         Run {
@@ -137,12 +144,26 @@ fn one_more(state: State, run: Run) -> Run
     }
 }
 
+// In place of join_live, which stays a call with a frame of its own when two rules use it.
+fn favoured(state: State, work: Work) -> Work
+    requires { ⌜ Ready mostPorts state ⌝ }
+    ensures { λ r. ⌜ r ≡ joinLive work (state .initiator .0) (state .target .0) ⌝ }
+{
+    let i = state.initiator;
+    let at = i.0;
+    if holds(work.live[at], state.target.0) {
+        join(work, i, state.target)
+    } else {
+        work
+    }
+}
+
 pub(crate) fn distributed(state: State, limit: u32, work: Work) -> Run
     requires { ⌜ (Ready mostPorts state) × (limit ≤ mostPorts) ⌝ }
     ensures { λ r. ⌜ r ≡ distributed state limit work ⌝ }
 {
     let mut run = Run {
-        work: join_live(work, state.initiator, state.target),
+        work: favoured(state, work),
         rounds: 0,
         stuck: false,
     };

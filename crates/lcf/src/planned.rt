@@ -22,12 +22,8 @@ fn planner(state: State, pre: Table, t: Target) -> Initiator
     ensures { λ r. ⌜ (r .0 ≡ planner state pre (t .0)) × (r .0 < state .ports) ⌝ }
 {
     let from = first_initiator(state, t);
-    Initiator(choose(
-        column(pre, state.ports, t),
-        [0; State::MOST],
-        state.ports,
-        from.0,
-    ))
+    let alike = [0; State::MOST];
+    Initiator(choose(column(&pre, state.ports, t), &alike, state.ports, from.0))
 }
 
 fn give(state: State, pre: Table, t: Target, work: Work) -> Work

@@ -1,4 +1,5 @@
 // Sets of ports as words, and tables of them.
+use crate::state::Counts;
 use crate::state::Moved;
 use crate::state::Set;
 use crate::state::State;
@@ -8,6 +9,8 @@ use words::holds;
 ghost use mathlib.Core.Path.{_≡_};
 ghost use mathlib.Core.Bool.{cond};
 ghost use Prim.Native.Nat.{min, _%_, _^_, _<_, _≤_};
+ghost use lib.Count.{ones};
+ghost use lib.ListN.{length};
 ghost use Rattle.frames.specs.Part.{mostPorts};
 ghost use Rattle.laws.specs.Sets.{has, with, without, column, sizes};
 ghost use Rattle.lcf.specs.Slot.{within};
@@ -64,9 +67,9 @@ pub(crate) fn gather(s: Set, row: Set, member: usize, t: Target) -> Set
     if holds(row, t.0) { put(s, member) } else { s }
 }
 
-pub(crate) fn column(rows: Table, n: usize, t: Target) -> Set
+pub(crate) fn column(rows: &Table, n: usize, t: Target) -> Set
     requires { ⌜ (n ≤ mostPorts) × (t .0 < n) ⌝ }
-    ensures { λ r. ⌜ r ≡ column rows n (t .0) ⌝ }
+    ensures { λ r. ⌜ r ≡ column (now (rows .entry)) n (t .0) ⌝ }
 {
     let mut s = 0;
     for i in 0..n {
@@ -75,12 +78,24 @@ pub(crate) fn column(rows: Table, n: usize, t: Target) -> Set
     s
 }
 
-pub(crate) fn sizes(rows: Table) -> [u32; State::MOST]
-    ensures { λ r. ⌜ r ≡ sizes rows ⌝ }
+// How many rows a table has: a proof knows it of a table by value, and not of a lent one. No code comes of it.
+pub(crate) fn full(rows: Table)
+    ensures { λ _. ⌜ length rows ≡ mostPorts ⌝ }
+{}
+
+fn size(row: Set) -> u8
+    ensures { λ r. ⌜ r ≡ ones row ⌝ }
 {
+    u16::count_ones(row) as u8
+}
+
+pub(crate) fn sizes(rows: &Table) -> Counts
+    ensures { λ r. ⌜ r ≡ sizes (now (rows .entry)) ⌝ }
+{
+    full(*rows);
     let mut counts = [0; State::MOST];
     for i in 0..State::MOST {
-        counts[i] = u16::count_ones(rows[i]);
+        counts[i] = size(rows[i]);
     }
     counts
 }

@@ -27,6 +27,9 @@ ghost use Rattle.lcf.specs.Slot.{
   declined,
   ended,
   slotOnTables,
+  orderly,
+  startDue,
+  finishDue,
 };
 
 // Rule 7.
@@ -152,13 +155,54 @@ fn ended(state: State, run: Run) -> Stepped
     }
 }
 
+// Rules 5 to 7.
+fn finish(state: State, mode: Mode, work: Work) -> Stepped
+    requires { ⌜ (Ready mostPorts state) × (wrongLimit mostPorts mode ≡ false) ⌝ }
+    ensures { λ r. ⌜ r ≡ ended mostPorts state (serveMode state mode work) ⌝ }
+{
+    ended(state, serve_mode(state, mode, work))
+}
+
+fn orderly(state: State) -> State
+    ensures { λ r. ⌜ (r ≡ orderly mostPorts state) × (Ready mostPorts r) ⌝ }
+{
+    if due_number(state, state.due, Mode::Central) == 0 {
+        state
+    } else {
+        State {
+            ports: 1,
+            initiator: Initiator(0),
+            target: Target(0),
+            due: state.due,
+        }
+    }
+}
+
+// The slot that is due up to its live requests, and from there on.
+pub fn start_due(state: State, req: Table, pre: Table) -> Work
+    ensures { λ r. ⌜ r ≡ startDue mostPorts state req pre ⌝ }
+{
+    start(orderly(state), req, pre)
+}
+
+pub fn finish_due(state: State, mode: Mode, work: Work) -> Stepped
+    ensures { λ r. ⌜ r ≡ finishDue mostPorts state mode work ⌝ }
+{
+    let number = due_number(state, state.due, mode);
+    if number == 0 {
+        finish(state, mode, work)
+    } else {
+        declined(state, number)
+    }
+}
+
 // One slot: the number, the next state, sixteen sets of targets and the rounds.
 pub fn slot_on_tables(state: State, slot: u32, mode: Mode, req: Table, pre: Table) -> Stepped
     ensures { λ r. ⌜ r ≡ slotOnTables mostPorts state slot mode req pre ⌝ }
 {
     let number = due_number(state, slot, mode);
     if number == 0 {
-        ended(state, serve_mode(state, mode, start(state, req, pre)))
+        finish(state, mode, start(state, req, pre))
     } else {
         declined(state, number)
     }

@@ -10,6 +10,9 @@ pub type Set = u16;
 
 pub type Table = [Set; State::MOST];
 
+// A number of at most State::MOST for each port.
+pub(crate) type Counts = [u8; State::MOST];
+
 // A word of twice as many bits, in which a set can be moved.
 pub(crate) type Moved = u32;
 

@@ -12,10 +12,10 @@ use Rattle.frames.specs.Frame.{differs}
 use Rattle.frames.specs.Config.{configLen}
 use Rattle.lcf.specs.Heard.{tables}
 use Rattle.lcf.specs.Slot.{within}
-use Rattle.lcf.specs.declared.heard.Tables.{Tables}
 use Rattle.shelf.specs.Hosts.{hostsOf}
 use Rattle.shelf.specs.Asked.{blockNumber, setsAsked}
-use Rattle.shelf.specs.declared.hosts.Hosts.{Hosts}
+use Rattle.shelf.specs.Told.{toldOf}
+use Rattle.shelf.specs.declared.hosts.Told.{Told}
 
 not-one : (b c : Bool) → _≡_ {A = ℕ} (cond b 1 (cond c 6 0)) 0 → b ≡ false
 not-one false c e = refl
@@ -30,7 +30,7 @@ module _ (m n : ℕ) (block : List ℕ) (number : ℕ) where
   unfolding setsAsked
   declined-sets is some e = rw (← is, ne-eqb number 0 some, e)
 
-  pub asked-sets : (hosts : Hosts) (counted : Tables) {r : List ℕ} → number ≡ blockNumber m n block → number ≡ 0 → hosts ≡ hostsOf m n block
-      → counted ≡ tables n (hosts .heard) (hosts .ben) (hosts .req) (hosts .pre) → r ≡ within n (counted .req) → record { number = 0; sets = r } ≡ setsAsked m n block
-  unfolding setsAsked tables
-  asked-sets hosts counted is none heard counts e = rw (← is, eq-eqb number 0 none, ← heard, e ∙ ap (λ (t : Tables). within n (t .req)) counts)
+  pub asked-sets : (told : Told) {r : List ℕ} → number ≡ blockNumber m n block → number ≡ 0 → told ≡ toldOf n (hostsOf m n block) → r ≡ within n (told .tables .req)
+      → record { number = 0; sets = r } ≡ setsAsked m n block
+  unfolding setsAsked toldOf tables
+  asked-sets told is none is-told e = rw (← is, eq-eqb number 0 none, e ∙ ap (λ (t : Told). within n (t .tables .req)) is-told)

@@ -26,18 +26,20 @@ none-given zero false true e = absurd (omega arith)
 none-given zero true c e = absurd (omega arith)
 none-given (suc k) b c e = absurd (omega (arith, rw (eqb·suc-zero k) at e))
 
-pub record Taken (m : ℕ) (st : State) (block out : List ℕ) : Type 0 where
+pub record Taken (m : ℕ) (st : State) (slot : ℕ) (mode : Mode) (block out : List ℕ) : Type 0 where
+  pub due : dueNumber m st slot mode ≡ 0
   pub some-port : 1 ≤ st .ports
   pub ports : st .ports ≤ m
   pub whole : length block ≡ st .ports * configLen
   pub room : st .ports * grantLen ≤ length out
 
-pub taken : (m : ℕ) (st : State) (slot : ℕ) (mode : Mode) (block out : List ℕ) → refusal m st slot mode block out ≡ 0 → Taken m st block out
+pub taken : (m : ℕ) (st : State) (slot : ℕ) (mode : Mode) (block out : List ℕ) → refusal m st slot mode block out ≡ 0 → Taken m st slot mode block out
 unfolding refusal
 taken m st slot mode block out e =
     let (due, whole, room) = none-given (dueNumber m st slot mode) (differs (length block) (st .ports * configLen)) (ltb (length out) (st .ports * grantLen)) e in
     let ready = served m st slot mode due .ready in
     record {
+      due = due;
       some-port = omega (arith, ready .initiator);
       ports = ready .ports;
       whole = eqb-true _ _ (not-false _ whole);

@@ -2,8 +2,7 @@
 ghost use mathlib.Core.Path.{_≡_};
 ghost use Rattle.frames.specs.Part.{mostPorts};
 ghost use Rattle.shelf.specs.Asked.{blockNumber, setsAsked};
-use crate::hosts::count_hosts;
-use crate::hosts::hear;
+use crate::hosts::listen;
 use frames::Config;
 use lcf::State;
 use lcf::Table;
@@ -37,7 +36,8 @@ pub fn sets_asked(n: usize, block: &[u8]) -> Asked
             sets: State::empty_table(),
         };
     }
-    let counted = count_hosts(n, hear(n, block));
+    let told = listen(n, block);
+    let counted = told.tables;
     let req = counted.req;
     Asked {
         number: 0,

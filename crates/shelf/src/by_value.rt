@@ -1,18 +1,20 @@
 // One slot, from bytes to bytes, by value.
 ghost use mathlib.Core.Path.{_≡_};
+ghost use Prim.Native.Nat.{_≤_};
 ghost use Rattle.frames.specs.Part.{mostPorts};
-ghost use Rattle.shelf.specs.Step.{refusal, slotOnHosts, stepped, output};
+ghost use Rattle.shelf.specs.Begun.{begunOf};
+ghost use Rattle.shelf.specs.Hosts.{hostsOf};
+ghost use Rattle.shelf.specs.Step.{refusal, stepped, output};
 ghost use Rattle.shelf.specs.Unanswered.{blockRefusal, unanswered};
 use crate::grants::write_grants;
-use crate::hosts::Hosts;
-use crate::hosts::count_hosts;
-use crate::hosts::hear;
+use crate::hosts::listen;
 use frames::Config;
 use frames::Grant;
 use lcf::Mode;
 use lcf::Set;
 use lcf::State;
 use lcf::Stepped;
+use lcf::Work;
 
 fn block_refusal(state: State, slot: u32, mode: Mode, block: &[u8]) -> u8
     ensures { λ r. ⌜ r ≡ blockRefusal mostPorts state slot mode (now (block .entry)) ⌝ }
@@ -40,13 +42,25 @@ fn refusal(state: State, slot: u32, mode: Mode, block: &[u8], out: &[u8]) -> u8
     0
 }
 
-fn slot_on_hosts(state: State, slot: u32, mode: Mode, hosts: Hosts) -> Stepped
-    ensures { λ r. ⌜ r ≡ slotOnHosts mostPorts state slot mode hosts ⌝ }
+// Who is heard, and the slot up to its live requests.
+pub struct Begun {
+    pub heard: Set,
+    pub work: Work,
+}
+
+// What the hosts said is gone when it returns.
+fn begin(state: State, block: &[u8]) -> Begun
+    requires { ⌜ state .ports ≤ mostPorts ⌝ }
+    ensures { λ r. ⌜ r ≡ begunOf mostPorts state (hostsOf mostPorts (state .ports) (now (block .entry))) ⌝ }
 {
-    let counted = count_hosts(state.ports, hosts);
-    let asked = counted.req;
-    let claimed = counted.pre;
-    lcf::slot_on_tables(state, slot, mode, asked, claimed)
+    let told = listen(state.ports, block);
+    let tables = told.tables;
+    let asked = tables.req;
+    let claimed = tables.pre;
+    Begun {
+        heard: told.heard,
+        work: lcf::start_due(state, asked, claimed),
+    }
 }
 
 pub fn step(state: State, slot: u32, mode: Mode, block: &[u8], link: Set, out: &mut [u8]) -> Stepped
@@ -56,14 +70,15 @@ pub fn step(state: State, slot: u32, mode: Mode, block: &[u8], link: Set, out: &
     if number != 0 {
         return lcf::declined(state, number);
     }
-    let hosts = hear(state.ports, block);
-    let stepped = slot_on_hosts(state, slot, mode, hosts);
+    let begun = begin(state, block);
+    let work = begun.work;
+    let stepped = lcf::finish_due(state, mode, work);
     let answer = stepped.answer;
     let sets = answer.sets;
     if answer.number != 0 {
         return stepped;
     }
-    write_grants(state.ports, hosts.heard, link, sets, out);
+    write_grants(state.ports, begun.heard, link, sets, out);
     stepped
 }
 
@@ -75,6 +90,7 @@ pub fn unanswered(state: State, slot: u32, mode: Mode, block: &[u8]) -> Stepped
     if number != 0 {
         return lcf::declined(state, number);
     }
-    let hosts = hear(state.ports, block);
-    slot_on_hosts(state, slot, mode, hosts)
+    let begun = begin(state, block);
+    let work = begun.work;
+    lcf::finish_due(state, mode, work)
 }

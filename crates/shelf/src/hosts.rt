@@ -5,6 +5,7 @@ ghost use Rattle.frames.specs.Part.{mostPorts};
 ghost use Rattle.frames.specs.Config.{configAnswer};
 ghost use Rattle.lcf.specs.Heard.{tables};
 ghost use Rattle.shelf.specs.Hosts.{said, hostsOf};
+ghost use Rattle.shelf.specs.Told.{toldOf};
 use frames::ConfigRead;
 use lcf::Set;
 use lcf::State;
@@ -26,7 +27,7 @@ fn hear_host(ports: usize, h: usize, block: &[u8]) -> ConfigRead
     frames::read_config(frame)
 }
 
-pub(crate) fn hear(ports: usize, block: &[u8]) -> Hosts
+fn hear(ports: usize, block: &[u8]) -> Hosts
     requires { ⌜ ports ≤ mostPorts ⌝ }
     ensures { λ r. ⌜ r ≡ hostsOf mostPorts ports (now (block .entry)) ⌝ }
 {
@@ -52,11 +53,29 @@ pub(crate) fn hear(ports: usize, block: &[u8]) -> Hosts
 }
 
 // What counts of req and pre (rules 1 and 2).
-pub(crate) fn count_hosts(ports: usize, hosts: Hosts) -> Tables
+fn count_hosts(ports: usize, hosts: Hosts) -> Tables
     ensures { λ r. ⌜ r ≡ tables ports (hosts .heard) (hosts .ben) (hosts .req) (hosts .pre) ⌝ }
 {
     let ben = hosts.ben;
     let req = hosts.req;
     let pre = hosts.pre;
     lcf::counted(ports, hosts.heard, ben, req, pre)
+}
+
+// Who is heard, and what counts of req and pre.
+pub struct Told {
+    pub heard: Set,
+    pub tables: Tables,
+}
+
+// Hears and counts. The votes are gone when it returns.
+pub(crate) fn listen(ports: usize, block: &[u8]) -> Told
+    requires { ⌜ ports ≤ mostPorts ⌝ }
+    ensures { λ r. ⌜ r ≡ toldOf ports (hostsOf mostPorts ports (now (block .entry))) ⌝ }
+{
+    let hosts = hear(ports, block);
+    Told {
+        heard: hosts.heard,
+        tables: count_hosts(ports, hosts),
+    }
 }

@@ -10,4 +10,4 @@ winner-spec =
     tie.close
     (tie.spec (λ c. search branch) (λ c. search branch) (λ c κs. search branch) (λ c κs. search branch)
     (λ c κs. search branch) (λ c κs. search branch) (λ c. search branch)
-    (λ c. (rw (← c .before .before .before .before .holds .ensures, c .before .before .before .if1 .left, ← c .before .before .column .ensures, ← c .before .sizes .ensures) (c .choose .ensures .0), search needs)))
+    (λ c. (rw (← c .before .before .before .before .before .before .before .holds .ensures, c .before .before .before .before .before .before .if1 .left, ← c .before .before .column .ensures, ← c .before .before .before .before .sizes .ensures) (c .choose .ensures .0), search needs)))

@@ -8,16 +8,16 @@ use Rattle.lcf.proofs.choice.choose.Statement.{statement}
 use Rattle.lcf.proofs.choice.choose.Tie as tie
 
 abbrev Inv-loop : tie.InvT-loop
-Inv-loop among n from numbers scan₀ scan = Scanned (has among) (λ x. getD numbers x 0) n from scan
+Inv-loop among numbers n from scan₀ scan = Scanned (has among) (λ x. getD numbers x 0) n from scan
 
 abbrev μ-loop : tie.MeasureT-loop
-μ-loop among n from numbers scan₀ scan = scan .left
+μ-loop among numbers n from scan₀ scan = scan .left
 
 pub choose-spec : {M : Type 1} → statement M
 choose-spec =
     tie.close
     (tie.spec Inv-loop μ-loop (λ c κs. search needs)
     (λ c. record { rest = c .rotated .ensures; best = none _ _; within = search needs; range = c .before .pre .1 })
-    (λ c κs. (search needs, search needs, c .before .if1 .taken, c .before .before .before .loop .inv))
+    (λ c κs. (search needs, search needs, c .if1 .taken, c .before .before .loop .inv))
     (λ c. c .next .ensures .0) (λ c. c .next .ensures .1)
     (λ c. (ends _ _ _ _ _ (c .before .before .loop .inv) (c .if1 .left), c .before .before .loop .inv .range)))

@@ -17,5 +17,5 @@ pub askers-spec : {M : Type 1} → statement M
 unfolding askers
 askers-spec =
     tie.close
-    (tie.spec Inv-loop μ-loop (λ c κs. search rows) (λ c. search rows) (λ c κs. search rows) (λ c. search rows)
-    (λ c. search rows) (λ c. search rows) (λ c. search rows) (λ c. search rows) (λ c. search rows))
+    (tie.spec Inv-loop μ-loop (λ c κs. search rows) (λ c κs. search rows) (λ c. search rows) (λ c κs. search rows) (λ c. search rows) (λ c. search rows)
+    (λ c. search rows) (λ c. search rows) (λ c. search rows) (λ c. search rows))

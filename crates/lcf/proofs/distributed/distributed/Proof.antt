@@ -17,6 +17,5 @@ pub distributed-spec : {M : Type 1} → statement M
 unfolding distributed
 distributed-spec =
     tie.close
-    (tie.spec Inv-loop μ-loop (λ c κs. search loop) (λ c. search loop) (λ c κs. search loop) (λ c. search loop)
-    (λ c. search loop) (λ c. search loop)
-    (λ c. rw (← c .before .before .join-live .ensures) (done _ _ _ _ (c .before .loop .inv .1) (search needs) (search needs))))
+    (tie.spec Inv-loop μ-loop (λ c κs. search loop) (λ c. search loop) (λ c κs. search loop) (λ c. search loop) (λ c. search loop) (λ c. search loop)
+    (λ c. rw (← c .before .before .favoured .ensures) (done _ _ _ _ (c .before .loop .inv .1) (search needs) (search needs))))

@@ -19,9 +19,8 @@ pub offers-spec : {M : Type 1} → statement M
 unfolding offer
 offers-spec =
     tie.close
-    (tie.spec Inv-loop μ-loop (λ c κs. search loop) (λ c κs. search loop) (λ c. search loop) (λ c. search loop)
-    (λ c. search loop) (λ c κs. search loop) (λ c. search loop) (λ c. search loop) (λ c. search loop)
-    (λ c. search loop) (λ c κs. search loop) (λ c. search loop) (λ c. search loop) (λ c. search loop)
-    (λ c. search loop)
-    (λ c. (search needs, again _ _ _ (c .before .before .before .loop .inv .1) (rw (← c .before .grant .ensures .0, ← c .gather .ensures))))
-    (λ c. all-offered _ _ (search needs) mostPorts _ _ _ _ (search needs) (c .before .before .before .before .pre .1) (c .before .before .before .sizes .ensures) (c .before .before .empty-table .ensures) (c .before .loop .inv .1) (search needs) (search needs)))
+    (tie.spec Inv-loop μ-loop (λ c κs. search loop) (λ c κs. search loop) (λ c κs. search loop) (λ c. search loop) (λ c. search loop) (λ c. search loop)
+    (λ c κs. search loop) (λ c. search loop) (λ c. search loop) (λ c. search loop) (λ c. search loop) (λ c κs. search loop) (λ c. search loop)
+    (λ c. search loop) (λ c. search loop) (λ c. search loop)
+    (λ c. (search needs, again _ _ _ (c .before .before .before .before .before .before .loop .inv .1) (rw (← c .before .before .grant .ensures .0, ← c .gather .ensures))))
+    (λ c. all-offered _ _ (search needs) mostPorts _ _ _ _ (c .before .before .before .before .full .ensures) (c .before .before .before .before .before .before .pre .1) (c .before .before .before .sizes .ensures) (c .before .before .empty-table .ensures) (c .before .loop .inv .1) (search needs) (search needs)))

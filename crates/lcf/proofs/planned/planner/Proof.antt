@@ -10,4 +10,4 @@ unfolding planner
 planner-spec =
     tie.close
     (tie.spec (λ c κs. search needs) (λ c κs. search needs) (λ c κs. search needs)
-    (λ c. (first mostPorts _ _ (c .before .column .ensures) (c .before .before .first-initiator .ensures .0) (c .choose .ensures .0), search needs)))
+    (λ c. (first mostPorts _ _ (c .before .before .column .ensures) (c .before .before .before .before .first-initiator .ensures .0) (c .choose .ensures .0), search needs)))

@@ -17,5 +17,5 @@ abbrev μ-loop : tie.MeasureT-loop
 pub sizes-spec : {M : Type 1} → statement M
 sizes-spec =
     tie.close
-    (tie.spec Inv-loop μ-loop (λ c. search rows) (λ c. search rows) (λ c. search rows) (λ c. search rows) (λ c. search rows)
+    (tie.spec Inv-loop μ-loop (λ c κs. search rows) (λ c. search rows) (λ c. search rows) (λ c. search rows) (λ c κs. search rows) (λ c. search rows)
     (λ c. search rows) (λ c. search rows) (λ c. search rows) (λ c. search rows))

@@ -13,7 +13,6 @@ slot-on-tables-spec =
     tie.close
     (tie.spec (λ c κs. search needs) (λ c κs. served mostPorts _ _ _ (sym (c .before .due-number .ensures) ∙ c .if1 .taken) .ready)
     (λ c κs. let s = served mostPorts _ _ _ (sym (c .before .before .due-number .ensures) ∙ c .before .if1 .taken) in (s .ready, s .limit))
-    (λ c κs. served mostPorts _ _ _ (sym (c .before .before .before .due-number .ensures) ∙ c .before .before .if1 .taken) .ready)
     (λ c κs. search needs)
-    (λ c. rw (← c .before .before .before .before .due-number .ensures, eq-eqb _ _ (c .before .before .before .if1 .taken), ← c .before .before .start .ensures, ← c .before .serve-mode .ensures) (c .ended .ensures))
+    (λ c. rw (← c .before .before .before .due-number .ensures, eq-eqb _ _ (c .before .before .if1 .taken), ← c .before .start .ensures) (c .finish .ensures))
     (λ c. rw (← c .before .before .due-number .ensures, ne-eqb _ _ (c .before .if1 .left)) (c .declined .ensures)))

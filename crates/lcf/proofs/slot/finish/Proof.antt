@@ -1,0 +1,7 @@
+use borrow.Author.Needs.{needs}
+use Rattle.lcf.proofs.slot.finish.Statement.{statement}
+use Rattle.lcf.proofs.slot.finish.Tie as tie
+
+pub finish-spec : {M : Type 1} → statement M
+finish-spec =
+    tie.close (tie.spec (λ c κs. search needs) (λ c κs. search needs) (λ c. rw (← c .before .serve-mode .ensures) (c .ended .ensures)))

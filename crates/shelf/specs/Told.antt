@@ -1,0 +1,8 @@
+-- Rules 1 and 2 on frames: who is heard, and what counts of req and pre.
+use Prim.Native.Nat.{ℕ}
+use Rattle.lcf.specs.Heard.{tables}
+use Rattle.shelf.specs.declared.hosts.Hosts.{Hosts}
+use Rattle.shelf.specs.declared.hosts.Told.{Told}
+
+unfoldable pub toldOf : ℕ → Hosts → Told
+toldOf n hosts = record { heard = hosts .heard; tables = tables n (hosts .heard) (hosts .ben) (hosts .req) (hosts .pre) }
