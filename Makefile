@@ -17,8 +17,10 @@ CXXFLAGS ?= -O2
 WARNINGS = -Wall -Wextra -Wpedantic -Werror
 
 # Another archive can stand in, as in: make test-c LIBRARY=elsewhere/libbellacush.a
-PROVED = target/staticlib/libbellacush.a
+PROVED = build/libbellacush.a
 LIBRARY ?= $(PROVED)
+FIRMWARE = target/staticlib/libbellacush.a
+COLLECTORS = target/staticlib/libcollector_calls.a
 MEASURED = target/staticlib/libmeasured.a
 HEADER = include/bellacush.h
 SOURCES = crates.txt $(shell find crates -name '*.rt' -o -name '*.antt')
@@ -28,10 +30,15 @@ CARGO = BELLACUSH_ARCHIVE='$(abspath $(LIBRARY))' cargo
 
 all: $(LIBRARY) build/shelf build/replay
 
-# The library, and the checks alone, which the tests and the benchmark link.
-$(PROVED) $(MEASURED): target/staticlib/lib%.a: $(SOURCES)
+# The slot and frame calls, the collectors' calls, and the checks alone, which the tests and the benchmark link.
+$(FIRMWARE) $(COLLECTORS) $(MEASURED): target/staticlib/lib%.a: $(SOURCES)
 	rt staticlib $*
 	@touch $@
+
+# An object of its own keeps the slot call's stack low: nothing else in it calls what the slot is made of.
+$(PROVED): $(FIRMWARE) $(COLLECTORS)
+	@mkdir -p build
+	printf 'create %s\naddlib %s\naddlib %s\nsave\nend\n' $@ $^ | ar -M
 
 build/shelf: firmware/shelf.c $(HEADER) $(LIBRARY)
 	@mkdir -p build

@@ -5,13 +5,11 @@ use std::path::{Path, PathBuf};
 
 fn main() {
     println!("cargo:rerun-if-env-changed=BELLACUSH_ARCHIVE");
-    let proved = Path::new(env!("CARGO_MANIFEST_DIR")).join("../target/staticlib");
+    let root = Path::new(env!("CARGO_MANIFEST_DIR")).join("..");
     let archive = env::var_os("BELLACUSH_ARCHIVE").map(PathBuf::from);
-    link(
-        "bellacush",
-        &archive.unwrap_or(proved.join("libbellacush.a")),
-    );
-    link("measured", &proved.join("libmeasured.a"));
+    let proved = root.join("build/libbellacush.a");
+    link("bellacush", &archive.unwrap_or(proved));
+    link("measured", &root.join("target/staticlib/libmeasured.a"));
 }
 
 fn link(name: &str, archive: &Path) {

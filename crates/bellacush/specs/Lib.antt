@@ -1,4 +1,3 @@
 pub mod Frames
-pub mod Ledger
 pub mod Slot
 pub mod State

@@ -9,7 +9,7 @@ use Rattle.lent.specs.Filled.{fittedNumber}
 use Rattle.ledger.specs.Lent.{lentNumber, lentFeed}
 use Rattle.table_bytes.specs.Table.{tableLen, tableIn}
 use Rattle.table_bytes.proofs.Fits.{table-read}
-use Rattle.bellacush.specs.Ledger.{tablesFit, feedNumber, feedWords}
+use Rattle.collector_calls.specs.Ledger.{tablesFit, feedNumber, feedWords}
 
 module _ (m : ℕ) (words : List ℕ) (n : ℕ) (asked connected : List ℕ) where
   abbrev Fed : ℕ → List ℕ → Type 0

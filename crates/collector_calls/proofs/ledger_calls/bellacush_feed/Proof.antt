@@ -1,8 +1,8 @@
 use borrow.Author.Needs.{needs}
 use Rattle.frames.specs.Part.{mostPorts}
-use Rattle.bellacush.proofs.Ledgers.{wrong-asked, wrong-connected, fed}
-use Rattle.bellacush.proofs.ledger_calls.bellacush_feed.Statement.{statement}
-use Rattle.bellacush.proofs.ledger_calls.bellacush_feed.Tie as tie
+use Rattle.collector_calls.proofs.Ledgers.{wrong-asked, wrong-connected, fed}
+use Rattle.collector_calls.proofs.ledger_calls.bellacush_feed.Statement.{statement}
+use Rattle.collector_calls.proofs.ledger_calls.bellacush_feed.Tie as tie
 
 pub bellacush-feed-spec : {M : Type 1} → statement M
 bellacush-feed-spec =

@@ -12,7 +12,7 @@ use Rattle.ledger.specs.Events.{meet, less, happened}
 use Rattle.ledger.specs.Ledger.{figuresOf, shown, high, over, refusal, number, next}
 use Rattle.ledger.specs.Lent.{wordsLen, ledgerOf, wordsOf, lentNumber, lentFeed, lentShown}
 use Rattle.table_bytes.specs.Table.{tableOf}
-use Rattle.bellacush.specs.Ledger.{tablesFit, feedWords, figuresAfter}
+use Rattle.collector_calls.specs.Ledger.{tablesFit, feedWords, figuresAfter}
 
 -- (0, 1) and (1, 0) are asked and wait; then (0, 1) is connected, (1, 0) is not asked again, and (1, 1) is asked and waits
 unfoldable pub fed : List ℕ

@@ -5,9 +5,9 @@ use native.Mathlib.Omega.{arith}
 use lib.ListN.{drop, length-set, drop-of-length-le}
 use lib.Seq.{sets-eq}
 use borrow.Author.Needs.{needs}
-use Rattle.bellacush.specs.Ledger.{figureWords}
-use Rattle.bellacush.proofs.ledger_calls.put_figures.Statement.{statement}
-use Rattle.bellacush.proofs.ledger_calls.put_figures.Tie as tie
+use Rattle.collector_calls.specs.Ledger.{figureWords}
+use Rattle.collector_calls.proofs.ledger_calls.put_figures.Statement.{statement}
+use Rattle.collector_calls.proofs.ledger_calls.put_figures.Tie as tie
 
 pub put-figures-spec : {M : Type 1} → statement M
 put-figures-spec =

@@ -2,7 +2,7 @@
 ghost use mathlib.Core.Path.{_≡_};
 ghost use lib.ListN.{length};
 ghost use Rattle.frames.specs.Part.{mostPorts};
-ghost use Rattle.bellacush.specs.Ledger.{figuresLen, figureWords, askedNumber, askedTable, feedNumber, feedWords, figuresNumber, figuresAfter};
+ghost use Rattle.collector_calls.specs.Ledger.{figuresLen, figureWords, askedNumber, askedTable, feedNumber, feedWords, figuresNumber, figuresAfter};
 use lcf::Initiator;
 use lcf::Target;
 use ledger::Figures;

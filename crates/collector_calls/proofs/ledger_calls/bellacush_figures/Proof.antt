@@ -1,8 +1,8 @@
 use borrow.Author.Needs.{needs}
 use borrow.Author.Tests.{eq-eqb, ne-eqb}
 use Rattle.lent.proofs.Fills.{unfit, declines, fills}
-use Rattle.bellacush.proofs.ledger_calls.bellacush_figures.Statement.{statement}
-use Rattle.bellacush.proofs.ledger_calls.bellacush_figures.Tie as tie
+use Rattle.collector_calls.proofs.ledger_calls.bellacush_figures.Statement.{statement}
+use Rattle.collector_calls.proofs.ledger_calls.bellacush_figures.Tie as tie
 
 pub bellacush-figures-spec : {M : Type 1} → statement M
 bellacush-figures-spec =

@@ -4,8 +4,8 @@ use borrow.Author.Tests.{eq-eqb, ne-eqb}
 use Rattle.frames.specs.Part.{mostPorts}
 use Rattle.lent.proofs.Fills.{unfit, declines, fills}
 use Rattle.table_bytes.proofs.Fits.{table-filled}
-use Rattle.bellacush.proofs.ledger_calls.bellacush_asked.Statement.{statement}
-use Rattle.bellacush.proofs.ledger_calls.bellacush_asked.Tie as tie
+use Rattle.collector_calls.proofs.ledger_calls.bellacush_asked.Statement.{statement}
+use Rattle.collector_calls.proofs.ledger_calls.bellacush_asked.Tie as tie
 
 pub bellacush-asked-spec : {M : Type 1} → statement M
 bellacush-asked-spec =
