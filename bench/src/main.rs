@@ -23,6 +23,7 @@ use traces::{agree, Load, Player, Trace, FULL, HALF, LIGHT};
 const MOST_SECONDS: f64 = 8.5e-6;
 const MOST_RATIO: f64 = 2.0;
 const MOST_CHECK_RATIO: f64 = 1.5;
+const MOST_STACK: usize = 512;
 const MODES: [(&str, u32); 2] = [("central", 0), ("distributed, limit 4", 4)];
 
 fn main() {
@@ -238,11 +239,13 @@ fn stacks() {
     println!("\n## The stack that one slot call uses\n");
     println!("The high-water mark on a painted stack, below the caller's frame, the arguments and");
     println!("the return address: the most over 753 slots of 16 ports, of full and of half load");
-    println!("and with plans, cleared votes and spoilt frames.\n");
-    println!("| Mode | Bytes |");
-    println!("|---|---|");
+    println!("and with plans, cleared votes and spoilt frames. Limit: {MOST_STACK} bytes, in a test too.\n");
+    println!("| Mode | Bytes | Limit |");
+    println!("|---|---|---|");
     for (mode, limit) in STACK_MODES {
-        println!("| {mode} | {} |", most_stack(calls::SLOT, limit));
+        let bytes = most_stack(calls::SLOT, limit);
+        let met = if bytes <= MOST_STACK { "met" } else { "missed" };
+        println!("| {mode} | {bytes} | {met} |");
     }
 }
 
@@ -258,4 +261,17 @@ fn most_stack(call: SlotCall, limit: u32) -> usize {
     let loads = [Traffic::requests(64), Traffic::requests(32), mixed];
     let most = loads.map(|load| stack::used(call, &Trace::of(16, limit, load)));
     most.into_iter().max().unwrap_or(0)
+}
+
+#[cfg(test)]
+mod tests {
+    use super::*;
+
+    #[test]
+    fn a_slot_keeps_to_its_stack() {
+        for (mode, limit) in STACK_MODES {
+            let bytes = most_stack(calls::SLOT, limit);
+            assert!(bytes <= MOST_STACK, "{mode}: {bytes} bytes of stack");
+        }
+    }
 }
