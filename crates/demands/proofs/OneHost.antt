@@ -6,9 +6,8 @@ use Prim.Native.Nat.{ℕ, _<_}
 use native.Mathlib.Decide.{ℕ-discrete}
 use native.Mathlib.Omega.{arith}
 use lib.Dec.{eqb}
-use lib.ListN.{length, getD}
 use borrow.Author.Tests.{eqb-true}
-use Rattle.laws.specs.Sets.{has, gathered, tabled}
+use Rattle.laws.specs.Sets.{has, tabled}
 use Rattle.laws.proofs.Loops.{same-steps}
 use Rattle.laws.proofs.Tests.{refuted}
 use Rattle.frames.specs.Frame.{Answer as Read}
@@ -18,7 +17,7 @@ use Rattle.lcf.specs.Slot.{declined, slotOnTables}
 use Rattle.lcf.specs.declared.state.State.{State}
 use Rattle.lcf.specs.declared.state.Mode.{Mode}
 use Rattle.lcf.specs.declared.work.Answer.{Answer}
-use Rattle.shelf.specs.Hosts.{isHeard, fieldOf, hostsOf}
+use Rattle.shelf.specs.Hosts.{fieldOf, hostsOf}
 use Rattle.shelf.specs.Grants.{granted}
 use Rattle.shelf.specs.Step.{refusal, slotOnHosts, stepped, output}
 use Rattle.shelf.proofs.Refusals.{taken}

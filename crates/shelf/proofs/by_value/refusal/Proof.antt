@@ -1,5 +1,6 @@
 use mathlib.Core.Path.{sym, _∙_}
 use native.Mathlib.Omega.{arith}
+use lib.ListN.{length}
 use borrow.Author.Needs.{needs}
 use borrow.Author.Tests.{lt-ltb, le-ltb, eq-eqb, ne-eqb}
 use Rattle.frames.specs.Part.{mostPorts}
@@ -14,5 +15,8 @@ refusal-spec =
     (tie.spec (λ c κs. search needs)
     (λ c. rw (block-first mostPorts, ← c .before .block-refusal .ensures, ne-eqb _ _ (c .if1 .taken)))
     (λ c. omega (arith, taken mostPorts _ _ _ _ _ (sym (c .before .before .block-refusal .ensures) ∙ c .before .if1 .left) .ports))
-    (λ c. let past = c .before .before in rw (block-first mostPorts, ← past .before .block-refusal .ensures, eq-eqb _ _ (past .if1 .left), lt-ltb _ _ (c .if2 .taken)))
+    (λ c.
+    let past = c .before .before in
+    let out = past .before .before .before .before .args .out .now in
+    rw (block-first mostPorts, ← past .before .block-refusal .ensures, eq-eqb _ _ (past .if1 .left), lt-ltb (length out) _ (c .if2 .taken)))
     (λ c. let past = c .before .before in rw (block-first mostPorts, ← past .before .block-refusal .ensures, eq-eqb _ _ (past .if1 .left), le-ltb _ _ (c .if2 .left))))
