@@ -209,24 +209,25 @@ static void count_slot(struct shelf *shelf, const struct slot *slot)
            BELLACUSH_DONE);
 }
 
-/* Each host reads its grant and sends one cell to the target that it was given. */
+/* Each host reads its grant and sends one cell to each target that it holds. */
 static void send_cells(struct shelf *shelf, const struct slot *slot)
 {
-    unsigned i;
+    unsigned i, t;
 
     for (i = 0; i < shelf->set->ports; i++) {
-        uint8_t part[BELLACUSH_GRANT_PART_LEN];
-        unsigned target;
+        uint8_t part[BELLACUSH_GRANT3_PART_LEN];
+        unsigned held;
 
-        expect("bellacush_read_grant",
-               bellacush_read_grant(slot->out + BELLACUSH_OUT_LEN(i), BELLACUSH_GRANT_LEN, part,
-                                    sizeof part),
+        expect("bellacush_read_grant3",
+               bellacush_read_grant3(slot->out + BELLACUSH_OUT_LEN(i), BELLACUSH_GRANT3_LEN, part,
+                                     sizeof part),
                BELLACUSH_DONE);
-        target = part[0] % 16u;
-        if (!(part[1] & BELLACUSH_GNT_VAL))
-            continue;
-        shelf->waiting[i][target]--;
-        shelf->sent[i][target]++;
+        held = part[2] * 256u + part[3];
+        for (t = 0; t < shelf->set->ports; t++)
+            if (held >> t & 1u) {
+                shelf->waiting[i][t]--;
+                shelf->sent[i][t]++;
+            }
     }
 }
 

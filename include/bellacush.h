@@ -36,10 +36,12 @@ extern "C" {
 #define BELLACUSH_TABLE_LEN 32       /* sixteen sets of targets, two bytes each, high byte first */
 #define BELLACUSH_CONFIG_LEN 11      /* type 1, req, pre, ben, qen, check */
 #define BELLACUSH_CONFIG_PART_LEN 8  /* req, pre, ben, qen */
-#define BELLACUSH_GRANT_LEN 5        /* type 2, nodeId and gnt, flags, check */
+#define BELLACUSH_GRANT3_LEN 7       /* type 3, nodeId, flags, the set of targets held, check */
+#define BELLACUSH_GRANT3_PART_LEN 4  /* nodeId, flags, the set of targets held */
+#define BELLACUSH_GRANT_LEN 5        /* type 2, which is only read: nodeId and gnt, flags, check */
 #define BELLACUSH_GRANT_PART_LEN 2   /* nodeId and gnt, flags */
 #define BELLACUSH_BLOCK_LEN(n) ((size_t)BELLACUSH_CONFIG_LEN * (n)) /* one slot of n hosts */
-#define BELLACUSH_OUT_LEN(n) ((size_t)BELLACUSH_GRANT_LEN * (n))    /* the grants of one slot */
+#define BELLACUSH_OUT_LEN(n) ((size_t)BELLACUSH_GRANT3_LEN * (n))   /* the grants of one slot */
 
 /* Lengths in words of 32 bits. */
 #define BELLACUSH_LEDGER_LEN 1041 /* the slots counted, four tables of counts, the sets that wait */
@@ -59,7 +61,7 @@ extern "C" {
 #define BELLACUSH_CENTRAL 0
 #define BELLACUSH_MOST_ROUNDS 16
 
-/* The third byte of a grant frame, the second of its part. */
+/* The third byte of a grant frame of either type, the second of its part. */
 #define BELLACUSH_GNT_VAL 1
 #define BELLACUSH_LINK_ERR 2
 #define BELLACUSH_CRC_ERR 4
@@ -88,16 +90,16 @@ enum bellacush_number {
     BELLACUSH_SLOT_EARLY = 4,       /* that difference above 2147483648 */
     BELLACUSH_BAD_LIMIT = 5,        /* distributed round limit outside 1 to 16 */
     BELLACUSH_BAD_BLOCK_LEN = 6,    /* block length other than 11 n */
-    BELLACUSH_OUT_TOO_SHORT = 7,    /* output below 5 n for a slot, 11 or 5 for one frame; for a
+    BELLACUSH_OUT_TOO_SHORT = 7,    /* output below 7 n for a slot, 11 or 7 for one frame; for a
                                        trace or body, below its length; for tables, below 32
                                        for each slot */
     BELLACUSH_BAD_LEN = 8,          /* a state, table, frame, part, ledger, figures, or words to
                                        show of a trace or body, of another length */
     BELLACUSH_BAD_TYPE = 9,         /* frame type other than asked for */
     BELLACUSH_BAD_CHECK = 10,       /* the frame's check differs */
-    BELLACUSH_BAD_GRANT_FIELD = 11, /* bits 3 to 7 of the flags set, gnt nonzero without gntVal,
-                                       or, in writing, nodeId or gnt above 15; for figures,
-                                       initiator or target above 15 */
+    BELLACUSH_BAD_GRANT_FIELD = 11, /* bits 3 to 7 of the flags set, nodeId above 15, gntVal
+                                       without a target held or a target held without it; for
+                                       figures, initiator or target above 15 */
     BELLACUSH_NOBODY_JOINED = 12,   /* a distributed round with a live request joined nobody */
     BELLACUSH_BAD_LEDGER = 13,      /* 4294967295 slots are counted already, or a figure of the
                                        ledger is above its slots counted */
@@ -123,9 +125,9 @@ enum bellacush_number {
  *        for nothing and plans nothing, and its vote still counts. So one host by itself,
  *        whatever it sends, disables nobody.
  * link   bit i is handed on as linkErr of host i.
- * out    at least 5 n bytes: gets the grant frame of host i from byte 5 i. It names the lowest
- *        target held, and has CRCErr set if the host is unheard. Bytes from 5 n on are not
- *        touched.
+ * out    at least 7 n bytes: gets the grant frame, of type 3, of host i from byte 7 i. It tells
+ *        the host all the targets that it holds, and has CRCErr set if the host is unheard.
+ *        Bytes from 7 n on are not touched.
  * table  32 bytes: gets the set of targets of initiator i in bytes 2 i and 2 i + 1, high byte
  *        first, bit t for target t. Several targets for one initiator are a planned multicast.
  *        No target is in two sets. The sets from n on are empty.
@@ -384,9 +386,20 @@ uint32_t bellacush_read_config(const uint8_t *frame, size_t frame_len,
                                uint8_t *part, size_t part_len);
 
 /*
- * Reads a grant frame: copies the 2 bytes between type and check (nodeId in the high and gnt
- * in the low four bits; the flags) to part and returns BELLACUSH_DONE. Otherwise part keeps its
- * bytes. Tested in order: 8 (frame other than 5 bytes, part other than 2), 9, 10, 11.
+ * Reads a grant frame, of type 3: copies the 4 bytes between type and check (nodeId; the flags;
+ * the set of targets held in two, high byte first, bit t for target t) to part and returns
+ * BELLACUSH_DONE. Otherwise part keeps its bytes. Tested in order: 8 (frame other than 7 bytes,
+ * part other than 4), 9, 10, 11.
+ */
+uint32_t bellacush_read_grant3(const uint8_t *frame, size_t frame_len,
+                               uint8_t *part, size_t part_len);
+
+/*
+ * Reads a grant frame of type 2, which earlier slot calls wrote: copies the 2 bytes between type
+ * and check (nodeId in the high and gnt, the lowest target held, in the low four bits; the
+ * flags) to part and returns BELLACUSH_DONE. Otherwise part keeps its bytes. Tested in order: 8
+ * (frame other than 5 bytes, part other than 2), 9, 10, 11 (bits 3 to 7 of the flags set, or gnt
+ * nonzero without gntVal).
  */
 uint32_t bellacush_read_grant(const uint8_t *frame, size_t frame_len,
                               uint8_t *part, size_t part_len);
@@ -401,13 +414,14 @@ uint32_t bellacush_write_config(uint16_t req, uint16_t pre, uint16_t ben, uint16
                                 uint8_t *out, size_t out_len);
 
 /*
- * Writes a grant frame to the first 5 bytes of out and returns BELLACUSH_DONE; bytes beyond are
- * not touched. A flag (gnt_val, link_err, crc_err) is set unless 0. Declining, out keeps every
- * byte. Tested in order: 11 (node_id or gnt above 15, or gnt nonzero with gnt_val 0), 7.
+ * Writes a grant frame, of type 3, to the first 7 bytes of out and returns BELLACUSH_DONE; bytes
+ * beyond are not touched. A flag (gnt_val, link_err, crc_err) is set unless 0; set: the targets
+ * held. Declining, out keeps every byte. Tested in order: 11 (node_id above 15, gnt_val with an
+ * empty set, or a set that is not empty with gnt_val 0), 7.
  */
-uint32_t bellacush_write_grant(uint32_t node_id, uint32_t gnt, uint32_t gnt_val,
-                               uint32_t link_err, uint32_t crc_err,
-                               uint8_t *out, size_t out_len);
+uint32_t bellacush_write_grant3(uint32_t node_id, uint32_t gnt_val, uint32_t link_err,
+                                uint32_t crc_err, uint16_t set,
+                                uint8_t *out, size_t out_len);
 
 #ifdef __cplusplus
 }

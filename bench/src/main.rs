@@ -106,7 +106,7 @@ fn slot_row(ports: usize, load: Load, (mode, limit): (&str, u32)) {
 
 fn checks() {
     println!("\n## The checks of one slot of 16 ports\n");
-    println!("The checks alone, 16 × 9 and 16 × 3 bytes; limit: a ratio of {MOST_CHECK_RATIO}. First all in one");
+    println!("The checks alone, 16 × 9 and 16 × 5 bytes; limit: a ratio of {MOST_CHECK_RATIO}. First all in one");
     println!(
         "call, where both compilers know the lengths, as they do in a slot; then a call for each,"
     );
@@ -139,7 +139,7 @@ fn rust_check(bytes: &[u8]) -> u16 {
 
 #[inline(never)]
 fn rust_checks(bytes: &[u8]) -> u16 {
-    let both = |part: &[u8]| plain::check(part) ^ plain::check(&part[..3]);
+    let both = |part: &[u8]| plain::check(part) ^ plain::check(&part[..5]);
     bytes.chunks_exact(9).fold(0, |sum, part| sum ^ both(part))
 }
 
@@ -166,7 +166,7 @@ fn checking_each() -> Times {
     let pass = |check: fn(&[u8]) -> u16| {
         for part in black_box(&bytes).chunks_exact(9) {
             black_box(check(black_box(part)));
-            black_box(check(black_box(&part[..3])));
+            black_box(check(black_box(&part[..5])));
         }
     };
     assert!(bytes
@@ -196,19 +196,19 @@ fn reading() -> Times {
 }
 
 fn writing() -> Times {
-    let (mut our_out, mut rust_out) = ([0; 80], [0; 80]);
+    let (mut our_out, mut rust_out) = ([0; 112], [0; 112]);
     compare(
         1,
         || {
             for host in 0..16 {
-                let part = &mut our_out[5 * host..];
-                assert_eq!(calls::write_grant(host as u32, 5, 1, 0, 0, part), 0);
+                let part = &mut our_out[7 * host..];
+                assert_eq!(calls::write_grant3(host as u32, 1, 0, 0, 32, part), 0);
             }
         },
         || {
             for host in 0..16 {
-                let (gnt, flags) = black_box((5, 1));
-                plain::write_grant(host as u8, gnt, flags, &mut rust_out[5 * host..]);
+                let (flags, set) = black_box((1, 32));
+                plain::write_grant(host as u8, flags, set, &mut rust_out[7 * host..]);
             }
             black_box(&mut rust_out);
         },

@@ -3,7 +3,7 @@
 
 const MOST_PORTS: usize = 16;
 const CONFIG_LEN: usize = 11;
-const GRANT_LEN: usize = 5;
+const GRANT_LEN: usize = 7;
 
 type Rows = [u16; MOST_PORTS];
 
@@ -64,10 +64,11 @@ pub fn config_is_right(frame: &[u8]) -> bool {
     frame.len() == CONFIG_LEN && frame[0] == 1 && check(&frame[..9]).to_be_bytes() == frame[9..]
 }
 
-pub fn write_grant(node_id: u8, gnt: u8, flags: u8, out: &mut [u8]) {
-    let body = [2, node_id << 4 | gnt, flags];
-    let [high, low] = check(&body).to_be_bytes();
-    out[..GRANT_LEN].copy_from_slice(&[body[0], body[1], body[2], high, low]);
+pub fn write_grant(node_id: u8, flags: u8, set: u16, out: &mut [u8]) {
+    let mut frame = [3, node_id, flags, (set >> 8) as u8, set as u8, 0, 0];
+    let sum = check(&frame[..GRANT_LEN - 2]).to_be_bytes();
+    frame[GRANT_LEN - 2..].copy_from_slice(&sum);
+    out[..GRANT_LEN].copy_from_slice(&frame);
 }
 
 /// The same as the C form's slot call.
@@ -294,15 +295,8 @@ fn grants(at: Place, live: &Rows) -> ([Best; MOST_PORTS], [u32; MOST_PORTS]) {
 fn write_grants(n: usize, held: &Rows, link: u16, quiet: u16, out: &mut [u8]) {
     for (i, part) in out.chunks_exact_mut(GRANT_LEN).take(n).enumerate() {
         let flag = |word: u16| (word >> i & 1) as u8;
-        let (gnt, valid) = match held[i] {
-            0 => (0, 0),
-            some => (some.trailing_zeros() as u8, 1),
-        };
-        write_grant(
-            i as u8,
-            gnt,
-            valid | flag(link) << 1 | flag(quiet) << 2,
-            part,
-        );
+        let valid = u8::from(held[i] != 0);
+        let flags = valid | flag(link) << 1 | flag(quiet) << 2;
+        write_grant(i as u8, flags, held[i], part);
     }
 }

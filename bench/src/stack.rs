@@ -103,7 +103,7 @@ pub fn used(call: SlotCall, trace: &Trace) -> usize {
             slot: 0,
             mode: trace.mode,
             block: block.clone(),
-            out: vec![0; 5 * trace.ports],
+            out: vec![0; 7 * trace.ports],
             table: vec![0; TABLE_LEN],
         };
         let frame = depth(&mut stack, &mut job);

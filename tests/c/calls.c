@@ -64,8 +64,9 @@ static void constants_are_the_documents(void)
     CHECK(BELLACUSH_MOST_PORTS == 16);
     CHECK(BELLACUSH_STATE_LEN == 7 && BELLACUSH_TABLE_LEN == 32);
     CHECK(BELLACUSH_CONFIG_LEN == 11 && BELLACUSH_CONFIG_PART_LEN == 8);
+    CHECK(BELLACUSH_GRANT3_LEN == 7 && BELLACUSH_GRANT3_PART_LEN == 4);
     CHECK(BELLACUSH_GRANT_LEN == 5 && BELLACUSH_GRANT_PART_LEN == 2);
-    CHECK(BELLACUSH_BLOCK_LEN(3) == 33 && BELLACUSH_OUT_LEN(2 + 1) == 15);
+    CHECK(BELLACUSH_BLOCK_LEN(3) == 33 && BELLACUSH_OUT_LEN(2 + 1) == 21);
     CHECK(BELLACUSH_DONE == 0 && BELLACUSH_BAD_PORTS == 1 && BELLACUSH_BAD_OFFSET == 2);
     CHECK(BELLACUSH_SLOT_STALE == 3 && BELLACUSH_SLOT_EARLY == 4 && BELLACUSH_BAD_LIMIT == 5);
     CHECK(BELLACUSH_BAD_BLOCK_LEN == 6 && BELLACUSH_OUT_TOO_SHORT == 7 && BELLACUSH_BAD_LEN == 8);
@@ -94,7 +95,7 @@ static void central_slot_is_served(void)
 {
     static const uint16_t req[3] = {3, 1, 6};
     static const uint8_t table[6] = {0, 1, 0, 0, 0, 2};
-    static const uint8_t grant[3] = {2, 0x21, BELLACUSH_GNT_VAL};
+    static const uint8_t grant[5] = {3, 2, BELLACUSH_GNT_VAL, 0, 2};
     struct lent lent = asking(3, req);
 
     CHECK(slot(&lent, 5, BELLACUSH_CENTRAL) == BELLACUSH_DONE);
@@ -137,24 +138,25 @@ static void lengths_are_tested(void)
     static const uint16_t req[2] = {3, 3};
     struct lent l = asking(2, req), before = l;
 
-    CHECK(bellacush_slot(l.state, 8, 5, 0, l.block, 22, 0, l.out, 10, l.table, 32) ==
+    CHECK(bellacush_slot(l.state, 8, 5, 0, l.block, 22, 0, l.out, 14, l.table, 32) ==
           BELLACUSH_BAD_LEN);
-    CHECK(bellacush_slot(l.state, 7, 5, 0, l.block, 22, 0, l.out, 10, l.table, 33) ==
+    CHECK(bellacush_slot(l.state, 7, 5, 0, l.block, 22, 0, l.out, 14, l.table, 33) ==
           BELLACUSH_BAD_LEN);
-    CHECK(bellacush_slot(l.state, 7, 5, 0, l.block, 21, 0, l.out, 10, l.table, 32) ==
+    CHECK(bellacush_slot(l.state, 7, 5, 0, l.block, 21, 0, l.out, 14, l.table, 32) ==
           BELLACUSH_BAD_BLOCK_LEN);
-    CHECK(bellacush_slot(l.state, 7, 5, 0, l.block, 22, 0, l.out, 9, l.table, 32) ==
+    CHECK(bellacush_slot(l.state, 7, 5, 0, l.block, 22, 0, l.out, 13, l.table, 32) ==
           BELLACUSH_OUT_TOO_SHORT);
     CHECK(bellacush_slot(NULL, 0, 5, 0, NULL, 0, 0, NULL, 0, NULL, 0) == BELLACUSH_BAD_LEN);
     CHECK(bellacush_write_config(0, 0, 0, 0, NULL, 0) == BELLACUSH_OUT_TOO_SHORT);
-    CHECK(bellacush_write_grant(0, 0, 0, 0, 0, NULL, 0) == BELLACUSH_OUT_TOO_SHORT);
+    CHECK(bellacush_write_grant3(0, 0, 0, 0, 0, NULL, 0) == BELLACUSH_OUT_TOO_SHORT);
     CHECK(bellacush_read_config(NULL, 0, NULL, 0) == BELLACUSH_BAD_LEN);
     CHECK(bellacush_read_grant(NULL, 0, NULL, 0) == BELLACUSH_BAD_LEN);
+    CHECK(bellacush_read_grant3(NULL, 0, NULL, 0) == BELLACUSH_BAD_LEN);
     l.state[1] = before.state[1] = 2;
     CHECK(slot(&l, 5, 0) == BELLACUSH_BAD_OFFSET);
     CHECK(same(&l, &before));
     l.state[0] = 17;
-    CHECK(bellacush_slot(l.state, 7, 5, 0, l.block, 176, 0, l.out, 80, l.table, 32) ==
+    CHECK(bellacush_slot(l.state, 7, 5, 0, l.block, 176, 0, l.out, 112, l.table, 32) ==
           BELLACUSH_BAD_PORTS);
 }
 
@@ -164,10 +166,10 @@ static void link_and_quiet_hosts_are_told(void)
     struct lent l = asking(2, req);
 
     memset(l.block + BELLACUSH_CONFIG_LEN, 0, BELLACUSH_CONFIG_LEN);
-    CHECK(bellacush_slot(l.state, 7, 5, 0, l.block, 22, 0xFFFE, l.out, 80, l.table, 32) ==
+    CHECK(bellacush_slot(l.state, 7, 5, 0, l.block, 22, 0xFFFE, l.out, 112, l.table, 32) ==
           BELLACUSH_DONE);
     CHECK(l.out[1] == 0x00 && l.out[2] == BELLACUSH_GNT_VAL);
-    CHECK(l.out[6] == 0x10 && l.out[7] == (BELLACUSH_LINK_ERR | BELLACUSH_CRC_ERR));
+    CHECK(l.out[8] == 1 && l.out[9] == (BELLACUSH_LINK_ERR | BELLACUSH_CRC_ERR));
     CHECK(l.out[BELLACUSH_OUT_LEN(2)] == 0xB7);
 }
 
@@ -193,26 +195,45 @@ static void config_frames(void)
     CHECK(memcmp(part, frame + 1, 8) == 0 && part[8] == 0xB7);
 }
 
-static void grant_frames(void)
+static void grant3_frames(void)
 {
-    static const uint8_t frame[5] = {2, 0xC5, 5, 0x1B, 0xF8};
-    uint8_t out[6], part[3];
+    static const uint8_t frame[7] = {3, 12, 5, 0x09, 0x20, 0xC5, 0xE6};
+    uint8_t out[8], part[5];
 
     memset(out, 0xB7, sizeof out);
     memset(part, 0xB7, sizeof part);
-    CHECK(bellacush_write_grant(16, 0, 1, 0, 0, out, 4) == BELLACUSH_BAD_GRANT_FIELD);
-    CHECK(bellacush_write_grant(0, 16, 1, 0, 0, out, 5) == BELLACUSH_BAD_GRANT_FIELD);
-    CHECK(bellacush_write_grant(0, 1, 0, 0, 0, out, 5) == BELLACUSH_BAD_GRANT_FIELD);
-    CHECK(bellacush_write_grant(12, 5, 1, 0, 1, out, 4) == BELLACUSH_OUT_TOO_SHORT);
+    CHECK(bellacush_write_grant3(16, 0, 1, 0, 0, out, 6) == BELLACUSH_BAD_GRANT_FIELD);
+    CHECK(bellacush_write_grant3(0, 1, 0, 0, 0, out, 7) == BELLACUSH_BAD_GRANT_FIELD);
+    CHECK(bellacush_write_grant3(0, 0, 0, 0, 1, out, 7) == BELLACUSH_BAD_GRANT_FIELD);
+    CHECK(bellacush_write_grant3(12, 1, 0, 1, 0x0920, out, 6) == BELLACUSH_OUT_TOO_SHORT);
     CHECK(out[0] == 0xB7);
-    CHECK(bellacush_write_grant(12, 5, 256, 0, 4294967295u, out, sizeof out) == BELLACUSH_DONE);
-    CHECK(memcmp(out, frame, sizeof frame) == 0 && out[5] == 0xB7);
+    CHECK(bellacush_write_grant3(12, 256, 0, 4294967295u, 0x0920, out, sizeof out) ==
+          BELLACUSH_DONE);
+    CHECK(memcmp(out, frame, sizeof frame) == 0 && out[7] == 0xB7);
+    CHECK(bellacush_read_grant3(frame, 7, part, 5) == BELLACUSH_BAD_LEN);
+    CHECK(bellacush_read_grant3(frame, 6, part, 4) == BELLACUSH_BAD_LEN);
+    out[2] |= 8;
+    CHECK(bellacush_read_grant3(out, 7, part, 4) == BELLACUSH_BAD_CHECK);
+    out[0] = 2;
+    CHECK(bellacush_read_grant3(out, 7, part, 4) == BELLACUSH_BAD_TYPE && part[0] == 0xB7);
+    CHECK(bellacush_read_grant3(frame, 7, part, 4) == BELLACUSH_DONE);
+    CHECK(memcmp(part, frame + 1, 4) == 0 && part[4] == 0xB7);
+}
+
+/* Frames of type 2, as earlier slot calls wrote them. */
+static void grant_frames(void)
+{
+    static const uint8_t frame[5] = {2, 0xC5, 5, 0x1B, 0xF8};
+    uint8_t wrong[5], part[3];
+
+    memcpy(wrong, frame, sizeof wrong);
+    memset(part, 0xB7, sizeof part);
     CHECK(bellacush_read_grant(frame, 5, part, 3) == BELLACUSH_BAD_LEN);
     CHECK(bellacush_read_grant(frame, 4, part, 2) == BELLACUSH_BAD_LEN);
-    out[2] |= 8;
-    CHECK(bellacush_read_grant(out, 5, part, 2) == BELLACUSH_BAD_CHECK);
-    out[0] = 1;
-    CHECK(bellacush_read_grant(out, 5, part, 2) == BELLACUSH_BAD_TYPE && part[0] == 0xB7);
+    wrong[2] |= 8;
+    CHECK(bellacush_read_grant(wrong, 5, part, 2) == BELLACUSH_BAD_CHECK);
+    wrong[0] = 1;
+    CHECK(bellacush_read_grant(wrong, 5, part, 2) == BELLACUSH_BAD_TYPE && part[0] == 0xB7);
     CHECK(bellacush_read_grant(frame, 5, part, 2) == BELLACUSH_DONE);
     CHECK(part[0] == 0xC5 && part[1] == (BELLACUSH_GNT_VAL | BELLACUSH_CRC_ERR) && part[2] == 0xB7);
 }
@@ -528,6 +549,7 @@ int main(void)
     lengths_are_tested();
     link_and_quiet_hosts_are_told();
     config_frames();
+    grant3_frames();
     grant_frames();
     asked_sets_of_a_block();
     a_ledger_counts_a_request_once();

@@ -43,6 +43,12 @@ extern "C" {
         part: *mut c_uchar,
         part_len: usize,
     ) -> u32;
+    fn bellacush_read_grant3(
+        frame: *const c_uchar,
+        frame_len: usize,
+        part: *mut c_uchar,
+        part_len: usize,
+    ) -> u32;
     fn bellacush_write_config(
         req: u16,
         pre: u16,
@@ -51,12 +57,12 @@ extern "C" {
         out: *mut c_uchar,
         out_len: usize,
     ) -> u32;
-    fn bellacush_write_grant(
+    fn bellacush_write_grant3(
         node_id: u32,
-        gnt: u32,
         gnt_val: u32,
         link_err: u32,
         crc_err: u32,
+        set: u16,
         out: *mut c_uchar,
         out_len: usize,
     ) -> u32;
@@ -199,25 +205,29 @@ pub fn read_grant(frame: &[u8], part: &mut [u8]) -> u32 {
     unsafe { bellacush_read_grant(frame.as_ptr(), frame.len(), part.as_mut_ptr(), part.len()) }
 }
 
+pub fn read_grant3(frame: &[u8], part: &mut [u8]) -> u32 {
+    unsafe { bellacush_read_grant3(frame.as_ptr(), frame.len(), part.as_mut_ptr(), part.len()) }
+}
+
 pub fn write_config(req: u16, pre: u16, ben: u16, qen: u16, out: &mut [u8]) -> u32 {
     unsafe { bellacush_write_config(req, pre, ben, qen, out.as_mut_ptr(), out.len()) }
 }
 
-pub fn write_grant(
+pub fn write_grant3(
     node_id: u32,
-    gnt: u32,
     gnt_val: u32,
     link_err: u32,
     crc_err: u32,
+    set: u16,
     out: &mut [u8],
 ) -> u32 {
     unsafe {
-        bellacush_write_grant(
+        bellacush_write_grant3(
             node_id,
-            gnt,
             gnt_val,
             link_err,
             crc_err,
+            set,
             out.as_mut_ptr(),
             out.len(),
         )

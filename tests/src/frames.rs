@@ -1,11 +1,13 @@
-//! Frames of our own: check, configuration and grant, written from document 01 alone.
+//! Frames of our own: check, configuration and grants, written from documents 01 and 02 alone.
 
 use std::sync::OnceLock;
 
 pub const CONFIG_LEN: usize = 11;
 pub const GRANT_LEN: usize = 5;
+pub const HELD_LEN: usize = 7;
 pub const CONFIG_TYPE: u8 = 1;
 pub const GRANT_TYPE: u8 = 2;
+pub const HELD_TYPE: u8 = 3;
 
 /// x^16 + x^12 + x^5 + 1, the highest power first.
 const DIVISOR: [bool; 17] = {
@@ -112,7 +114,12 @@ impl Config {
     }
 }
 
-/// A grant's fields as numbers of any size; not every one can be framed.
+/// The flags byte of a grant: gntVal, linkErr and CRCErr from bit 0 on.
+fn flag_byte(flags: [bool; 3]) -> u8 {
+    (0..3).map(|bit| u8::from(flags[bit]) << bit).sum()
+}
+
+/// The fields of a grant of type 2 as numbers of any size; not every one can be framed.
 #[derive(Clone, Copy, Debug, PartialEq)]
 pub struct Grant {
     pub node_id: u32,
@@ -130,12 +137,10 @@ impl Grant {
     /// The frame's bytes; of a grant that fits.
     pub fn frame(self) -> Vec<u8> {
         assert!(self.fits());
-        let flags = [self.gnt_val, self.link_err, self.crc_err];
-        let flag_byte = (0..3).map(|bit| u8::from(flags[bit]) << bit).sum();
         sealed(vec![
             GRANT_TYPE,
             (self.node_id * 16 + self.gnt) as u8,
-            flag_byte,
+            flag_byte([self.gnt_val, self.link_err, self.crc_err]),
         ])
     }
 
@@ -161,6 +166,54 @@ impl Grant {
             return Err(11);
         }
         Ok(grant)
+    }
+}
+
+/// The fields of a grant of type 3, which tells all that is held; not every one can be framed.
+#[derive(Clone, Copy, Debug, PartialEq)]
+pub struct Held {
+    pub node_id: u32,
+    pub gnt_val: bool,
+    pub link_err: bool,
+    pub crc_err: bool,
+    pub set: u16,
+}
+
+impl Held {
+    pub fn fits(self) -> bool {
+        self.node_id <= 15 && self.gnt_val == (self.set != 0)
+    }
+
+    /// The frame's bytes; of a grant that fits.
+    pub fn frame(self) -> Vec<u8> {
+        assert!(self.fits());
+        let flags = flag_byte([self.gnt_val, self.link_err, self.crc_err]);
+        let [high, low] = self.set.to_be_bytes();
+        sealed(vec![HELD_TYPE, self.node_id as u8, flags, high, low])
+    }
+
+    /// The fields, or the number that refuses the frame.
+    pub fn read(frame: &[u8]) -> Result<Held, u32> {
+        if frame.len() != HELD_LEN {
+            return Err(8);
+        }
+        if frame[0] != HELD_TYPE {
+            return Err(9);
+        }
+        if !check_is_right(frame) {
+            return Err(10);
+        }
+        let held = Held {
+            node_id: u32::from(frame[1]),
+            gnt_val: frame[2] & 1 != 0,
+            link_err: frame[2] & 2 != 0,
+            crc_err: frame[2] & 4 != 0,
+            set: u16::from_be_bytes([frame[3], frame[4]]),
+        };
+        if frame[2] >= 8 || !held.fits() {
+            return Err(11);
+        }
+        Ok(held)
     }
 }
 

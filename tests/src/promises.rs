@@ -1,7 +1,7 @@
 //! What documents 01 and 02 promise of each call of the C form, over our own frames and
 //! scheduler; the calls of the ledger and of traces are in modules of their own.
 
-use crate::frames::{Config, Grant, CONFIG_LEN, GRANT_LEN};
+use crate::frames::{Config, Grant, Held, CONFIG_LEN, GRANT_LEN, HELD_LEN};
 use crate::scheduler::{self, schedule, Matrix, Mode, Position, Schedule, MOST_PORTS};
 use crate::slots::{After, Slot, State, STATE_LEN, TABLE_LEN};
 
@@ -32,7 +32,7 @@ fn refusal(call: &Slot) -> Option<u32> {
         (4, behind > HALF),
         (5, call.mode > 16),
         (6, call.block.len() != CONFIG_LEN * ports),
-        (7, call.out.len() < GRANT_LEN * ports),
+        (7, call.out.len() < HELD_LEN * ports),
     ];
     tests.iter().find(|test| test.1).map(|test| test.0)
 }
@@ -54,8 +54,8 @@ fn served(call: &Slot) -> After {
     after.state = advanced(state).bytes();
     after.table = table(&made.held);
     for (host, heard) in hosts.iter().enumerate() {
-        let frame = grant(host, &made, call.link, heard.is_some()).frame();
-        after.out[GRANT_LEN * host..][..GRANT_LEN].copy_from_slice(&frame);
+        let frame = told(host, &made, call.link, heard.is_some()).frame();
+        after.out[HELD_LEN * host..][..HELD_LEN].copy_from_slice(&frame);
     }
     after
 }
@@ -91,14 +91,15 @@ pub(crate) fn table(matrix: &Matrix) -> Vec<u8> {
         .collect()
 }
 
-fn grant(host: usize, made: &Schedule, link: u16, heard: bool) -> Grant {
-    let lowest = made.held[host].iter().position(|&held| held);
-    Grant {
+fn told(host: usize, made: &Schedule, link: u16, heard: bool) -> Held {
+    let targets = (0..MOST_PORTS).filter(|&target| made.held[host][target]);
+    let set = targets.map(|target| 1 << target).sum();
+    Held {
         node_id: host as u32,
-        gnt: lowest.unwrap_or(0) as u32,
-        gnt_val: lowest.is_some(),
+        gnt_val: set != 0,
         link_err: link >> host & 1 == 1,
         crc_err: !heard,
+        set,
     }
 }
 
@@ -130,6 +131,13 @@ pub fn read_grant(frame: &[u8], part: &[u8]) -> (u32, Vec<u8>) {
     copied(Grant::read(frame).err(), frame, part)
 }
 
+pub fn read_grant3(frame: &[u8], part: &[u8]) -> (u32, Vec<u8>) {
+    if part.len() != HELD_LEN - 3 {
+        return (8, part.to_vec());
+    }
+    copied(Held::read(frame).err(), frame, part)
+}
+
 fn copied(refused: Option<u32>, frame: &[u8], part: &[u8]) -> (u32, Vec<u8>) {
     match refused {
         Some(number) => (number, part.to_vec()),
@@ -142,11 +150,11 @@ pub fn write_config(config: Config, out: &[u8]) -> (u32, Vec<u8>) {
     written(config.frame(), out)
 }
 
-pub fn write_grant(grant: Grant, out: &[u8]) -> (u32, Vec<u8>) {
-    if !grant.fits() {
+pub fn write_grant3(held: Held, out: &[u8]) -> (u32, Vec<u8>) {
+    if !held.fits() {
         return (11, out.to_vec());
     }
-    written(grant.frame(), out)
+    written(held.frame(), out)
 }
 
 pub(crate) fn written(frame: Vec<u8>, out: &[u8]) -> (u32, Vec<u8>) {

@@ -77,7 +77,7 @@ impl Slot {
             mode,
             block,
             link: 0,
-            out: vec![0xB7; 5 * usize::from(state.ports) + 3],
+            out: vec![0xB7; 7 * usize::from(state.ports) + 3],
             table: vec![0xB7; TABLE_LEN],
         }
     }

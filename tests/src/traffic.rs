@@ -1,6 +1,6 @@
 //! Random blocks: what hosts ask, plan and vote, and what befalls their frames on the way.
 
-use crate::frames::{sealed, Config, Grant, CONFIG_LEN};
+use crate::frames::{sealed, Config, Held, CONFIG_LEN};
 use crate::random::Random;
 
 /// How often, in 64, each thing happens.
@@ -83,14 +83,15 @@ fn foreign(random: &mut Random) -> Vec<u8> {
 }
 
 fn grant(random: &mut Random) -> Vec<u8> {
-    let grant = Grant {
+    let set = random.word();
+    let held = Held {
         node_id: random.below(16) as u32,
-        gnt: random.below(16) as u32,
-        gnt_val: true,
+        gnt_val: set != 0,
         link_err: random.chance(1, 2),
         crc_err: random.chance(1, 2),
+        set,
     };
-    grant.frame()
+    held.frame()
 }
 
 fn lengthened(mut frame: Vec<u8>) -> Vec<u8> {

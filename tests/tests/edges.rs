@@ -125,7 +125,7 @@ fn number_1_for_ports_outside_1_to_16() {
         expect_kept(&call_with(ports, 0, 0), 1);
         let mut call = call_with(ports, 0, 0);
         call.block = vec![0; 11 * usize::from(ports)];
-        call.out = vec![0; 5 * usize::from(ports)];
+        call.out = vec![0; 7 * usize::from(ports)];
         expect_kept(&call, 1);
     }
     for ports in 1..=16 {
@@ -185,9 +185,9 @@ fn number_6_for_any_other_block_length() {
 fn number_7_for_output_below_5_n() {
     for n in 1..=16 {
         let mut call = call(State::fresh(n, 9));
-        for len in 0..=5 * n + 12 {
+        for len in 0..=7 * n + 12 {
             call.out = vec![0xB7; len];
-            if len < 5 * n {
+            if len < 7 * n {
                 expect_kept(&call, 7);
             } else {
                 expect_served(&call);
@@ -283,7 +283,7 @@ fn grants_carry_their_link_bit_and_no_other() {
                 call.link = link;
                 let after = expect_served(&call);
                 for host in 0..n {
-                    let set = after.out[5 * host + 2] & 2 != 0;
+                    let set = after.out[7 * host + 2] & 2 != 0;
                     assert_eq!(set, link & (1 << host) != 0);
                 }
             }
@@ -292,12 +292,23 @@ fn grants_carry_their_link_bit_and_no_other() {
 }
 
 #[test]
-fn grant_names_the_lowest_of_several_targets() {
-    let mut hosts = full(4);
-    hosts[2].pre = 0b1010;
-    let after = expect_served(&Slot::of_hosts(State::fresh(4, 9), CENTRAL, &hosts));
-    assert_eq!(after.sets()[2], 0b1010);
-    assert_eq!(after.out[11..13], [0x21, 1]);
+fn host_that_planned_three_targets_and_kept_two_is_told_both() {
+    // targets 1 and 10 are its own; target 3's rotation starts at host 3, which claims it too
+    let mut hosts = full(12);
+    hosts[1].pre = 1 << 10 | 0b1010;
+    hosts[3].pre = 0b1000;
+    let after = expect_served(&Slot::of_hosts(State::fresh(12, 9), CENTRAL, &hosts));
+    assert_eq!((after.sets()[1], after.sets()[3]), (1 << 10 | 0b10, 0b1000));
+    assert_eq!(after.out[7..12], [3, 1, 1, 0b100, 0b10]);
+    assert_eq!(after.out[21..26], [3, 3, 1, 0, 0b1000]);
+}
+
+#[test]
+fn host_that_holds_nothing_is_told_an_empty_set() {
+    let mut hosts = full(2);
+    hosts[1].req = 0;
+    let after = expect_served(&Slot::of_hosts(State::fresh(2, 9), CENTRAL, &hosts));
+    assert_eq!(after.out[7..12], [3, 1, 0, 0, 0]);
 }
 
 #[test]
@@ -309,7 +320,7 @@ fn unheard_host_is_told_so_and_declines_nothing() {
             let after = expect_served(&call);
             assert_eq!(after.sets()[quiet], 0);
             for host in 0..n {
-                assert_eq!(after.out[5 * host + 2] & 4 != 0, host == quiet);
+                assert_eq!(after.out[7 * host + 2] & 4 != 0, host == quiet);
             }
         }
     }
@@ -338,9 +349,9 @@ fn disabled_host_is_not_told_that_it_is_unheard() {
 fn sets_at_or_above_n_are_written_empty_and_bytes_beyond_the_grants_kept() {
     for n in 1..=16 {
         let mut call = call(State::fresh(n, 9));
-        call.out = vec![0xB7; 80 + 9];
+        call.out = vec![0xB7; 112 + 9];
         let after = expect_served(&call);
         assert!(after.table[2 * n..].iter().all(|&byte| byte == 0));
-        assert!(after.out[5 * n..].iter().all(|&byte| byte == 0xB7));
+        assert!(after.out[7 * n..].iter().all(|&byte| byte == 0xB7));
     }
 }

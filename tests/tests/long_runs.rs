@@ -19,7 +19,7 @@ fn declined_between(random: &mut Random, next: &Slot, last: &Slot) {
         }
         3 => call.mode = random.between(17, 1 << 32) as u32 | 32,
         4 => call.block.push(0),
-        _ => call.out.truncate(5 * usize::from(next.state[0]) - 1),
+        _ => call.out.truncate(7 * usize::from(next.state[0]) - 1),
     }
     let after = call.agreed();
     assert_ne!(after.number(), 0);

@@ -30,7 +30,7 @@ fn any_call(random: &mut Random, ports: usize, mode: u32) -> Slot {
     let mut call = Slot::due(any_state(random, ports), mode, block);
     call.link = random.word();
     let beyond = random.pick(&[0, 0, 1, 5, 20]);
-    call.out = random.bytes(5 * ports + beyond);
+    call.out = random.bytes(7 * ports + beyond);
     call.table = random.bytes(32);
     call
 }
@@ -198,7 +198,7 @@ fn every_number_of_ports_with_any_buffers() {
             call.state[0] = ports as u8;
             let blocks = [0, 11 * ports, call.block.len()];
             call.block.resize(random.pick(&blocks), 1);
-            call.out.resize(random.pick(&[0, 5 * ports, 80]), 0xB7);
+            call.out.resize(random.pick(&[0, 7 * ports, 112]), 0xB7);
             call.mode = random.pick(&[call.mode, 0, 17, u32::MAX]);
             call.agreed();
         }
@@ -217,7 +217,7 @@ fn all_bytes_random() {
             mode: random.pick(&[0, 1, 16, any_mode]),
             block: random.bytes(11 * ports),
             link: random.word(),
-            out: random.bytes(5 * ports),
+            out: random.bytes(7 * ports),
             table: random.bytes(32),
         };
         call.agreed();

@@ -1,4 +1,3 @@
 pub mod Trips
-pub mod Parts
 pub mod Slots
 pub mod Unique

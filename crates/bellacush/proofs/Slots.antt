@@ -14,7 +14,7 @@ use Rattle.table_bytes.specs.Table.{tableLen, tablePut}
 use Rattle.table_bytes.proofs.Fits.{table-filled}
 use Rattle.shelf.specs.Step.{stepped, output}
 use Rattle.bellacush.specs.Slot.{stateLen, stateOf, stateBytes, wordOf, stateAfter, tableAfter, fits, run, slotWord, slotState, slotTable, slotOutput}
-use Rattle.bellacush.proofs.Parts.{copied}
+use Rattle.lent.proofs.Fills.{copied}
 
 -- what is lent, after a slot that was declined and after one that was served
 pub kept : (r : Stepped) (state table : List ℕ) → (r .answer .number ≡ 0 → ⊥) → (state ≡ stateAfter r state) × (table ≡ tableAfter r table)

@@ -10,8 +10,8 @@ use lib.ListN.{length, replicate}
 use borrow.Author.Tests.{ltb-true, ltb-false, lt-ltb, le-ltb, eqb-true, eq-eqb, not-false}
 use Rattle.laws.specs.Sets.{asks}
 use Rattle.laws.proofs.Tests.{both, every, neither, arms}
+use Rattle.frames.specs.Part.{frameLen}
 use Rattle.frames.specs.Frame.{differs}
-use Rattle.frames.specs.Config.{configLen}
 use Rattle.lcf.proofs.Ports.{asks-within}
 use Rattle.shelf.specs.Asked.{blockNumber, setsAsked}
 use Rattle.shelf.specs.declared.asked.Asked.{Asked}
@@ -22,12 +22,12 @@ module _ (m n : ℕ) (block : List ℕ) where
   -- neither 1 nor 6 applies to a whole block, and to no other
   whole-number : Whole m n block → blockNumber m n block ≡ 0
   unfolding blockNumber
-  whole-number w = rw (le-ltb n 1 (w .some-port), le-ltb m n (w .most-ports), eq-eqb (length block) (n * configLen) (w .whole-block))
+  whole-number w = rw (le-ltb n 1 (w .some-port), le-ltb m n (w .most-ports), eq-eqb (length block) (n * frameLen n) (w .whole-block))
 
   number-whole : blockNumber m n block ≡ 0 → Whole m n block
   unfolding blockNumber
   number-whole e =
-      let (ports, size) = none-given (ltb n 1 || ltb m n) (differs (length block) (n * configLen)) e in
+      let (ports, size) = none-given (ltb n 1 || ltb m n) (differs (length block) (n * frameLen n)) e in
       let (some, most) = neither (ltb n 1) (ltb m n) ports in
       record { some-port = ltb-false n 1 some; most-ports = ltb-false m n most; whole-block = eqb-true _ _ (not-false _ size) }
     where

@@ -23,11 +23,15 @@ pub use Rattle.demands.proofs.Qen.{qen-unused, qen-unused-output}
 pub use Rattle.demands.proofs.Choice.{choice-chosen, chosen-once}
 pub use Rattle.demands.proofs.Rules.{planner-chosen, winner-favoured, winner-chosen, grants-chosen, accepted-chosen}
 pub use Rattle.demands.proofs.Rounds.{rounds-on-tables, rounds-run, rounds-once}
--- What each host is told: its grant frame in the output of a served slot, field by field. No byte beyond the frames is touched.
-pub use Rattle.demands.proofs.SlotGrants.{grant-told, beyond-untouched}
+-- What each host is told: its grant frame in the output of a served slot, field by field; it names all that the host holds, and no more. No
+-- byte beyond the frames is touched.
+pub use Rattle.demands.proofs.SlotGrants.{grant-told, held-named, named-held, beyond-untouched}
 -- Frames: what is written reads back, what is read is what would be written, and no two frames read alike.
 pub use Rattle.frames.proofs.Trips.{config-reads-back, config-writes-back, config-alike}
-pub use Rattle.frames.proofs.Trips.{grant-reads-back, grant-writes-back, grant-alike, grant-in-form}
+pub use Rattle.frames.proofs.Trips.{held-reads-back, held-writes-back, held-alike, held-in-form, held-says}
+-- Type 2, which is only read: a frame of fields in form reads as them, and what is read is that frame.
+pub use Rattle.frames.proofs.GrantLaws.{grant-reads, grant-writes}
+pub use Rattle.frames.proofs.Trips.{grant-alike}
 -- Demand 3. The share: of W served slots in which a pair waits, W / n² or more connect it, and say so in its host's grant frame.
 pub use Rattle.demands.proofs.SlotShare.{share, waiting-named}
 pub use Rattle.demands.proofs.Share.{share as share-on-tables}

@@ -25,7 +25,7 @@ pub mod Stage
 -- what they rest on
 pub mod SlotCalls
 pub mod SlotHosts
-pub mod Lowest
+pub mod Small
 pub mod Progress
 pub mod Turns
 pub mod Histories

@@ -28,7 +28,7 @@ use Rattle.demands.proofs.SlotCalls.{whole}
 use Rattle.demands.proofs.SlotHosts.{Whole, said-says, clears-exactly}
 
 -- With one port nobody is disabled.
-pub one-port-enabled : (block : List ℕ) → Heard block 0 → Enabled 1 block 0
+pub one-port-enabled : (block : List ℕ) → Heard 1 block 0 → Enabled 1 block 0
 one-port-enabled block h = record { heard = h; not-by-two = λ x y x< y< p q. omega arith }
 
 module _ {m n g : ℕ} {a b : List ℕ} (first : Whole m n a) (alone : VoteAlone n g a b) where
@@ -36,10 +36,10 @@ module _ {m n g : ℕ} {a b : List ℕ} (first : Whole m n a) (alone : VoteAlone
   second = record { some-port = first .some-port; most-ports = first .most-ports; whole-block = sym (alone .same-length) ∙ first .whole-block }
 
   -- what two frames have in common, g's and any other's
-  in-common : {A : Type 0} (f : Read Config → A) → f (says a g) ≡ f (says b g) → (h : ℕ) → h < n → f (says a h) ≡ f (says b h)
+  in-common : {A : Type 0} (f : Read Config → A) → f (says n a g) ≡ f (says n b g) → (h : ℕ) → h < n → f (says n a h) ≡ f (says n b h)
   in-common f at-g h h< = go (ℕ-discrete h g)
     where
-      go : Dec (h ≡ g) → f (says a h) ≡ f (says b h)
+      go : Dec (h ≡ g) → f (says n a h) ≡ f (says n b h)
       go (yes e) = rw e at-g
       go (no e) = ap f (alone .others-same h h< e)
 
@@ -47,15 +47,15 @@ module _ {m n g : ℕ} {a b : List ℕ} (first : Whole m n a) (alone : VoteAlone
   unfolding hostsOf
   heard-same = same-steps _ _ 0 n (λ h s h<. rw (said-says first h h<, said-says second h h<, in-common (λ x. x .number) (alone .same-number) h h<))
 
-  rows-same : (field : Config → ℕ) → field (says a g .fields) ≡ field (says b g .fields) → tabled m (fieldOf m n a field) n ≡ tabled m (fieldOf m n b field) n
+  rows-same : (field : Config → ℕ) → field (says n a g .fields) ≡ field (says n b g .fields) → tabled m (fieldOf m n a field) n ≡ tabled m (fieldOf m n b field) n
   rows-same field at-g = same-steps _ _ _ n (λ h s h<. rw (said-says first h h<, said-says second h h<, in-common (λ x. field (x .fields)) at-g h h<))
 
   -- who is present is who is heard, in both
-  nobody-disabled : {c : List ℕ} (whole : Whole m n c) → ((h i : ℕ) → h < n → i < n → (h ≡ g → ⊥) → Clears c i h → ⊥) → (i : ℕ) → i < n
+  nobody-disabled : {c : List ℕ} (whole : Whole m n c) → ((h i : ℕ) → h < n → i < n → (h ≡ g → ⊥) → Clears n c i h → ⊥) → (i : ℕ) → i < n
       → present n (hostsOf m n c .heard) (hostsOf m n c .ben) i ≡ has (hostsOf m n c .heard) i
   nobody-disabled whole nothing i i< = one-disables-nobody n _ _ g i (λ h h< other. refuted _ (λ e. nothing h i h< i< other (clears-exactly whole i h h< .0 e)))
 
-  others-clear-nothing : (h i : ℕ) → h < n → i < n → (h ≡ g → ⊥) → Clears b i h → ⊥
+  others-clear-nothing : (h i : ℕ) → h < n → i < n → (h ≡ g → ⊥) → Clears n b i h → ⊥
   others-clear-nothing h i h< i< other c = let same = sym (alone .others-same h h< other) in
       alone .others-clear-nothing h i h< i< other (record { heard = ap (λ (x : Read Config). x .number) (sym same) ∙ c .heard; clear = ap (λ (x : Read Config). has (x .fields .ben) i) (sym same) ∙ c .clear })
 
@@ -100,9 +100,9 @@ module _ (m : ℕ) (st : State) (slot : ℕ) (mode : Mode) (a b : List ℕ) (lin
       answer = stepped m st slot mode a out .answer
 
       go : (r : Bool) → eqb (answer .number) 0 ≡ r
-          → cond r (granted m (st .ports) (hostsOf m (st .ports) a .heard) link (answer .sets) out) out
-          ≡ cond r (granted m (st .ports) (hostsOf m (st .ports) b .heard) link (answer .sets) out) out
+          → cond r (granted (st .ports) (hostsOf m (st .ports) a .heard) link (answer .sets) out) out
+          ≡ cond r (granted (st .ports) (hostsOf m (st .ports) b .heard) link (answer .sets) out) out
       go true e =
           let served = whole m st (record { slot = slot; mode = mode; block = a; link = link; out = out }) (eqb-true _ 0 e) in
-          ap (λ s. granted m (st .ports) s link (answer .sets) out) (heard-same served alone)
+          ap (λ s. granted (st .ports) s link (answer .sets) out) (heard-same served alone)
       go false e = refl

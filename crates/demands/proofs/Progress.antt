@@ -6,6 +6,7 @@ use mathlib.Core.List.{List}
 use Prim.Native.Nat.{ℕ, suc, _≤_, _<_}
 use native.Mathlib.Decide.{ℕ-discrete}
 use native.Mathlib.Omega.{arith}
+use lib.Count.{trailingZeros}
 use lib.Dec.{eqb}
 use lib.ListN.{length, getD, length-map, length-set}
 use borrow.Author.Tests.{eq-eqb, eqb-true, eqb-false, not-true, not-false}
@@ -14,6 +15,7 @@ use Rattle.laws.proofs.Tests.{both, every, either, neither, arms}
 use Rattle.laws.proofs.Rows.{length-tabled}
 use Rattle.laws.proofs.Members.{has-none}
 use Rattle.laws.proofs.Steps.{upto, kept}
+use Rattle.laws.proofs.Words.{first-digit}
 use Rattle.lcf.specs.Join.{join}
 use Rattle.lcf.specs.Distributed.{askers, grants, offers, accepted, answer, round, anyLive, oneMore, distributed}
 use Rattle.lcf.specs.Slot.{within, start, serveMode, matched}
@@ -23,13 +25,11 @@ use Rattle.lcf.specs.declared.state.Mode.the-variants.{Central, Distributed}
 use Rattle.lcf.specs.declared.work.Work.{Work}
 use Rattle.lcf.specs.declared.work.Round.{Round}
 use Rattle.lcf.specs.declared.work.Run.{Run}
-use Rattle.shelf.specs.Grants.{lowest}
-use Rattle.shelf.proofs.Lowest.{lowest-in}
 use Rattle.demands.specs.Rounds.{SomeLive}
 use Rattle.demands.specs.Choice.{targetStart, FewestRequests, FewestAskers}
 use Rattle.demands.proofs.Join.{live-left}
 use Rattle.demands.proofs.Keeps.{live-keeps, round-keeps, planned-keeps}
-use Rattle.demands.proofs.Lowest.{below-power}
+use Rattle.demands.proofs.Small.{below-power}
 use Rattle.demands.proofs.Rules.{grants-chosen, accepted-chosen, in-offers}
 use Rattle.demands.proofs.Stage.{start-live}
 
@@ -47,7 +47,7 @@ pub some-live : (live : List ℕ) (n : ℕ) → anyLive live n ≡ true → Some
 some-live live n any =
     let (i, i<, some) = some-row live n any in
     let row = getD live i 0 in
-    record { initiator = i; target = lowest row row; below = i<; asked = lowest-in row row (omega arith) (below-power row) }
+    record { initiator = i; target = trailingZeros row row; below = i<; asked = eq-eqb _ 1 (first-digit row row (λ e. omega arith) (below-power row) .0) }
 
 pub none-live : (live : List ℕ) (n : ℕ) → anyLive live n ≡ false → SomeLive n live → ⊥
 none-live live n none l = true≢false (sym (l .asked) ∙ ap (λ s. has s (l .target)) (empty (l .initiator) (l .below)) ∙ has-none (l .target))

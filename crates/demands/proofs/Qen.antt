@@ -8,8 +8,8 @@ use lib.ListN.{set}
 use Rattle.laws.specs.Sets.{with, gathered, tabled}
 use Rattle.laws.proofs.Loops.{same-steps}
 use Rattle.frames.specs.Frame.{Answer}
-use Rattle.frames.specs.Config.{configLen, readConfig}
-use Rattle.frames.specs.Part.{hostNumber}
+use Rattle.frames.specs.Config.{readConfig}
+use Rattle.frames.specs.Part.{frameLen, hostNumber}
 use Rattle.frames.specs.declared.config.Config.{Config}
 use Rattle.lcf.specs.declared.state.State.{State}
 use Rattle.lcf.specs.declared.state.Mode.{Mode}
@@ -18,15 +18,15 @@ use Rattle.shelf.specs.Step.{refusal, stepped, output}
 use Rattle.demands.specs.Block.{framePart, says, QenAlone}
 
 module _ (m n : ℕ) (a b : List ℕ) (alone : QenAlone n a b) where
-  said-same : (f : Answer Config → ℕ) (h : ℕ) → f (says a h) ≡ f (says b h) → f (said m n a h) ≡ f (said m n b h)
+  said-same : (f : Answer Config → ℕ) (h : ℕ) → f (says n a h) ≡ f (says n b h) → f (said m n a h) ≡ f (said m n b h)
   unfolding said hostNumber
-  said-same f h e = rw (alone .same-length) (go (eqb (hostNumber m configLen n h b) 0))
+  said-same f h e = rw (alone .same-length) (go (eqb (hostNumber m (frameLen n) n h b) 0))
     where
-      go : (found : Bool) → f (readConfig (cond found (framePart a h) [])) ≡ f (readConfig (cond found (framePart b h) []))
+      go : (found : Bool) → f (readConfig (cond found (framePart n a h) [])) ≡ f (readConfig (cond found (framePart n b h) []))
       go true = e
       go false = refl
 
-  rows-same : (field : Config → ℕ) → ((h : ℕ) → h < n → field (says a h .fields) ≡ field (says b h .fields))
+  rows-same : (field : Config → ℕ) → ((h : ℕ) → h < n → field (says n a h .fields) ≡ field (says n b h .fields))
       → tabled m (fieldOf m n a field) n ≡ tabled m (fieldOf m n b field) n
   rows-same field e = same-steps _ _ _ n (λ h rows h<. ap (set rows h) (said-same (λ s. field (s .fields)) h (e h h<)))
 

@@ -10,9 +10,8 @@ use lib.ListN.{length}
 use borrow.Author.Tests.{eqb-false, ne-eqb, ltb-true, lt-ltb, leb-true, le-leb, not-true}
 use Rattle.laws.proofs.Tests.{both, every, either, arms}
 use Rattle.laws.proofs.Rows.{length-tabled}
+use Rattle.frames.specs.Part.{frameLen, toldLen}
 use Rattle.frames.specs.Frame.{differs}
-use Rattle.frames.specs.Config.{configLen}
-use Rattle.frames.specs.Grant.{grantLen}
 use Rattle.lcf.specs.Advance.{advance}
 use Rattle.lcf.specs.Heard.{counted}
 use Rattle.lcf.specs.Slot.{matched, behind, wrongLimit, dueNumber, declined, ended, slotOnTables}
@@ -88,10 +87,10 @@ module _ (m : ℕ) (st : State) (c : SlotCall) where
   refused due block out = cond (differs due 0) due (cond block 6 (cond out 7 0))
 
   abbrev wrong-block : Bool
-  wrong-block = differs (length (c .block)) (st .ports * configLen)
+  wrong-block = differs (length (c .block)) (st .ports * frameLen (st .ports))
 
   abbrev no-room : Bool
-  no-room = ltb (length (c .out)) (st .ports * grantLen)
+  no-room = ltb (length (c .out)) (st .ports * toldLen (st .ports))
 
   -- the tests of the call in one nest
   flat : (r : Run) (a b c d e f g : Bool)

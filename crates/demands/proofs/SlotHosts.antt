@@ -13,8 +13,8 @@ use Rattle.laws.proofs.Tests.{both, every, refuted}
 use Rattle.laws.proofs.Members.{gathered-has, has-gathered}
 use Rattle.laws.proofs.Rows.{row-tabled}
 use Rattle.frames.specs.Frame.{Answer}
-use Rattle.frames.specs.Config.{configLen, readConfig}
-use Rattle.frames.specs.Part.{hostNumber}
+use Rattle.frames.specs.Config.{readConfig}
+use Rattle.frames.specs.Part.{frameLen, hostNumber}
 use Rattle.frames.specs.declared.config.Config.{Config}
 use Rattle.frames.proofs.Trips.{zeros-unread}
 use Rattle.lcf.specs.Heard.{clears, present, counted}
@@ -27,8 +27,8 @@ use Rattle.demands.specs.Block.{framePart, says, Heard, Requests, Plans,
 use Rattle.demands.proofs.Hosts.{present-exactly, counted-asks, asks-counted}
 
 -- A missing frame, eleven zeros, is unheard.
-pub missing-unheard : (block : List ℕ) (h : ℕ) → framePart block h ≡ replicate configLen 0 → Heard block h → ⊥
-missing-unheard block h missing heard =
+pub missing-unheard : (n : ℕ) (block : List ℕ) (h : ℕ) → framePart n block h ≡ replicate (frameLen n) 0 → Heard n block h → ⊥
+missing-unheard n block h missing heard =
     let nine = sym (ap (λ (s : List ℕ). readConfig s .number) missing ∙ zeros-unread) in
     omega arith
 
@@ -36,7 +36,7 @@ missing-unheard block h missing heard =
 pub record Whole (m n : ℕ) (block : List ℕ) : Type 0 where
   pub some-port : 1 ≤ n
   pub most-ports : n ≤ m
-  pub whole-block : length block ≡ n * configLen
+  pub whole-block : length block ≡ n * frameLen n
 
 module _ {m n : ℕ} {block : List ℕ} (whole : Whole m n block) where
   abbrev heard : ℕ
@@ -47,28 +47,28 @@ module _ {m n : ℕ} {block : List ℕ} (whole : Whole m n block) where
 
   -- ---- rule 1
 
-  pub said-says : (h : ℕ) → h < n → said m n block h ≡ says block h
+  pub said-says : (h : ℕ) → h < n → said m n block h ≡ says n block h
   unfolding said hostNumber
   said-says h h< =
-      rw (le-ltb n 1 (whole .some-port), le-ltb m n (whole .most-ports), eq-eqb (length block) (n * configLen) (whole .whole-block), lt-leb n h h<)
+      rw (le-ltb n 1 (whole .some-port), le-ltb m n (whole .most-ports), eq-eqb (length block) (n * frameLen n) (whole .whole-block), lt-leb n h h<)
 
-  pub heard-exactly : (h : ℕ) → h < n → (has heard h ≡ true) ↔ Heard block h
+  pub heard-exactly : (h : ℕ) → h < n → (has heard h ≡ true) ↔ Heard n block h
   unfolding hostsOf
   heard-exactly h h< =
       let at = has-gathered (isHeard m n block) n h h< in
       let same = ap (λ (a : Answer Config). a .number) (said-says h h<) in
       (λ e. sym same ∙ eqb-true _ 0 (sym at ∙ e), λ e. at ∙ eq-eqb _ 0 (same ∙ e))
 
-  field-row : (field : Config → ℕ) (h : ℕ) → h < n → getD (tabled m (fieldOf m n block field) n) h 0 ≡ field (says block h .fields)
+  field-row : (field : Config → ℕ) (h : ℕ) → h < n → getD (tabled m (fieldOf m n block field) n) h 0 ≡ field (says n block h .fields)
   field-row field h h< = row-tabled m (fieldOf m n block field) n h h< (omega (arith, whole .most-ports)) ∙ ap (λ (a : Answer Config). field (a .fields)) (said-says h h<)
 
   -- ---- rule 2
 
-  votes : (h : ℕ) → h < n → getD ben h 0 ≡ says block h .fields .ben
+  votes : (h : ℕ) → h < n → getD ben h 0 ≡ says n block h .fields .ben
   unfolding hostsOf
   votes = field-row (λ c. c .ben)
 
-  pub clears-exactly : (i h : ℕ) → h < n → (clears heard ben i h ≡ true) ↔ Clears block i h
+  pub clears-exactly : (i h : ℕ) → h < n → (clears heard ben i h ≡ true) ↔ Clears n block i h
   clears-exactly i h h< = (
     λ e. let (a, b) = both (has heard h) _ e in record { heard = heard-exactly h h< .0 a; clear = ap (λ s. has s i) (sym (votes h h<)) ∙ not-true _ b },
     λ c. every (heard-exactly h h< .1 (c .heard)) (ap not (ap (λ s. has s i) (votes h h<) ∙ c .clear)),
@@ -91,7 +91,7 @@ module _ {m n : ℕ} {block : List ℕ} (whole : Whole m n block) where
   -- what counts of a field is what an enabled host sent
   counts : (field : Config → ℕ) (i t : ℕ)
       → (asks (counted n heard ben (tabled m (fieldOf m n block field) n)) i t ≡ true)
-      ↔ ((i < n) × Enabled n block i × (has (field (says block i .fields)) t ≡ true))
+      ↔ ((i < n) × Enabled n block i × (has (field (says n block i .fields)) t ≡ true))
   counts field i t = (
     λ e. let (p, a) = counted-asks n heard ben _ i t e in
         let (i<, enabled) = enabled-exactly i .0 p in
@@ -106,11 +106,11 @@ module _ {m n : ℕ} {block : List ℕ} (whole : Whole m n block) where
   abbrev pre : List ℕ
   pre = counted n heard ben (hostsOf m n block .pre)
 
-  pub requests-count : (i t : ℕ) → (asks req i t ≡ true) ↔ ((i < n) × Enabled n block i × Requests block i t)
+  pub requests-count : (i t : ℕ) → (asks req i t ≡ true) ↔ ((i < n) × Enabled n block i × Requests n block i t)
   unfolding hostsOf
   requests-count = counts (λ c. c .req)
 
-  plans-count : (i t : ℕ) → (asks pre i t ≡ true) ↔ ((i < n) × Enabled n block i × Plans block i t)
+  plans-count : (i t : ℕ) → (asks pre i t ≡ true) ↔ ((i < n) × Enabled n block i × Plans n block i t)
   unfolding hostsOf
   plans-count = counts (λ c. c .pre)
 

@@ -5,8 +5,7 @@ use mathlib.Core.Bool.{true≢false}
 use Prim.Native.Nat.{ℕ, _*_, _≤_}
 use native.Mathlib.Omega.{arith}
 use lib.ListN.{length}
-use Rattle.frames.specs.Config.{configLen}
-use Rattle.frames.specs.Grant.{grantLen}
+use Rattle.frames.specs.Part.{frameLen, toldLen}
 use Rattle.lcf.specs.Advance.{advance}
 use Rattle.lcf.specs.Slot.{behind}
 use Rattle.lcf.specs.declared.state.State.{State}
@@ -31,8 +30,8 @@ module _ (m : ℕ) (st : State) (c : SlotCall) where
       last ports (passed free e) = omega arith
 
   -- A call in order is served: the slot is the one due, limit, block and output are as they must be.
-  pub served-in-order : InOrder m st → c .slot ≡ st .due → (WrongLimit m (c .mode) → ⊥) → length (c .block) ≡ st .ports * configLen
-      → st .ports * grantLen ≤ length (c .out) → number m st c ≡ 0
+  pub served-in-order : InOrder m st → c .slot ≡ st .due → (WrongLimit m (c .mode) → ⊥) → length (c .block) ≡ st .ports * frameLen (st .ports)
+      → st .ports * toldLen (st .ports) ≤ length (c .out) → number m st c ≡ 0
   unfolding behind
   served-in-order o due limit block out =
       let now = on-time (c .slot) due in

@@ -18,18 +18,18 @@ use Rattle.demands.proofs.Share.{tables-fair, waiting-alone}
 use Rattle.demands.proofs.Turns.{fair-share, by-value}
 use Rattle.demands.proofs.SlotCalls.{whole, same-number, same-sets}
 use Rattle.demands.proofs.SlotHosts.{waits-on-tables}
-use Rattle.demands.proofs.SlotGrants.{alone-named}
+use Rattle.demands.proofs.SlotGrants.{held-named}
 use Rattle.demands.proofs.SlotRefusal.{declined-does-nothing}
 use Rattle.demands.proofs.SlotServed.{served-advances}
 
 -- When a waiting pair is connected, it is all that its initiator holds, and its host's grant frame names the target.
 pub waiting-named : (m : ℕ) → m ≤ mostPorts → (st : State) (c : SlotCall) (i t : ℕ) → i < st .ports → number m st c ≡ 0 → Waiting i t st c
-    → asks (sets m st c) i t ≡ true → Alone (sets m st c) i t × (names (outputAfter m st c) i t ≡ true)
+    → asks (sets m st c) i t ≡ true → Alone (sets m st c) i t × (names (st .ports) (outputAfter m st c) i t ≡ true)
 waiting-named m most st c i t i< done w e =
     let same = same-sets m st c done in
     let only = waiting-alone m st (onTables m st c) i t (waits-on-tables (whole m st c done) i t i< w) (ap (λ s. asks s i t) (sym same) ∙ e) in
     let alone : Alone (sets m st c) i t = λ u q. only u (ap (λ s. asks s i u) (sym same) ∙ q) in
-    (alone, alone-named m most st c done i i< t e alone)
+    (alone, held-named m most st c done i i< t e)
 
 pub slots-move : (m : ℕ) → Moves (λ st. st) ByValue (next m) (served m)
 slots-move m = record {

@@ -2,8 +2,7 @@
 use mathlib.Core.Path.{_≡_, ap, _∙_}
 use Prim.Native.Nat.{ℕ, _*_, _^_, _≤_, _<_}
 use lib.ListN.{length}
-use Rattle.frames.specs.Config.{configLen}
-use Rattle.frames.specs.Grant.{grantLen}
+use Rattle.frames.specs.Part.{frameLen, toldLen}
 use Rattle.lcf.specs.Ready.{fresh}
 use Rattle.lcf.specs.declared.state.Fresh.{Fresh}
 use Rattle.lcf.proofs.Started.{fresh-is}
@@ -18,7 +17,7 @@ module _ (m n due : ℕ) (some : 1 ≤ n) (most : n ≤ m) where
   fresh-in-order = rw (fresh-is m n due some most) (record { some-port = some; most-ports = most; offsets = record { initiator = some; target = some } })
 
   -- a call in order is served in that slot, and none in another
-  pub fresh-serves : (c : SlotCall) → c .slot ≡ due → (WrongLimit m (c .mode) → ⊥) → length (c .block) ≡ n * configLen → n * grantLen ≤ length (c .out)
+  pub fresh-serves : (c : SlotCall) → c .slot ≡ due → (WrongLimit m (c .mode) → ⊥) → length (c .block) ≡ n * frameLen n → n * toldLen n ≤ length (c .out)
       → number m (fresh m n due .state) c ≡ 0
   fresh-serves c named limit block out =
       let is = fresh-is m n due some most in

@@ -1,64 +1,66 @@
--- Rules 1 to 4, said of the frames in a slot block.
+-- Rules 1 to 4, said of the frames in a slot block of n hosts.
 use mathlib.Core.Path.{_≡_}
 use mathlib.Core.Bool.{true, false}
 use mathlib.Core.List.{List}
 use Prim.Native.Nat.{ℕ, _*_, _<_}
-use lib.ListN.{length, take, drop}
+use lib.ListN.{length}
+use Rattle.laws.specs.Parts.{part}
 use Rattle.laws.specs.Sets.{has}
 use Rattle.frames.specs.Frame.{Answer}
-use Rattle.frames.specs.Config.{configLen, readConfig}
+use Rattle.frames.specs.Config.{readConfig}
+use Rattle.frames.specs.Part.{frameLen}
 use Rattle.frames.specs.declared.config.Config.{Config}
 use Rattle.lcf.specs.Choice.{place}
 use Rattle.lcf.specs.declared.state.State.{State}
 use Rattle.demands.specs.Choice.{targetStart}
 
 -- the bytes of the frame of host h
-abbrev pub framePart : List ℕ → ℕ → List ℕ
-framePart block h = take configLen (drop (h * configLen) block)
+abbrev pub framePart : ℕ → List ℕ → ℕ → List ℕ
+framePart n block h = part (h * frameLen n) (frameLen n) block
 
 -- what it reads as: the number, 0 if the frame is correct, and the fields
-abbrev pub says : List ℕ → ℕ → Answer Config
-says block h = readConfig (framePart block h)
+abbrev pub says : ℕ → List ℕ → ℕ → Answer Config
+says n block h = readConfig (framePart n block h)
 
 -- rule 1: host h is heard
-abbrev pub Heard : List ℕ → ℕ → Type 0
-Heard block h = says block h .number ≡ 0
+abbrev pub Heard : ℕ → List ℕ → ℕ → Type 0
+Heard n block h = says n block h .number ≡ 0
 
 -- target t is in the req of host h; and in its pre
-abbrev pub Requests : List ℕ → ℕ → ℕ → Type 0
-Requests block h t = has (says block h .fields .req) t ≡ true
+abbrev pub Requests : ℕ → List ℕ → ℕ → ℕ → Type 0
+Requests n block h t = has (says n block h .fields .req) t ≡ true
 
-abbrev pub Plans : List ℕ → ℕ → ℕ → Type 0
-Plans block h t = has (says block h .fields .pre) t ≡ true
+abbrev pub Plans : ℕ → List ℕ → ℕ → ℕ → Type 0
+Plans n block h t = has (says n block h .fields .pre) t ≡ true
 
 -- rule 2: host h is heard and has bit i clear in ben
-pub record Clears (block : List ℕ) (i h : ℕ) : Type 0 where
-  pub heard : Heard block h
-  pub clear : has (says block h .fields .ben) i ≡ false
+pub record Clears (n : ℕ) (block : List ℕ) (i h : ℕ) : Type 0 where
+  pub heard : Heard n block h
+  pub clear : has (says n block h .fields .ben) i ≡ false
 
 -- rule 2: host i is heard, and no two different hosts of n clear its bit
 pub record Enabled (n : ℕ) (block : List ℕ) (i : ℕ) : Type 0 where
-  pub heard : Heard block i
-  pub not-by-two : (g h : ℕ) → g < n → h < n → Clears block i g → Clears block i h → g ≡ h
+  pub heard : Heard n block i
+  pub not-by-two : (g h : ℕ) → g < n → h < n → Clears n block i g → Clears n block i h → g ≡ h
 
 -- document 02, item 1: target t is asked by host i, both below n: the host is heard and enabled, and t is in its req
 pub record Asks (n : ℕ) (block : List ℕ) (i t : ℕ) : Type 0 where
   pub initiator : i < n
   pub target : t < n
   pub enabled : Enabled n block i
-  pub asked : Requests block i t
+  pub asked : Requests n block i t
 
 -- demand 3: host i is enabled, asks for t and plans nothing, and no enabled host plans t
 pub record Waits (n : ℕ) (block : List ℕ) (i t : ℕ) : Type 0 where
   pub enabled : Enabled n block i
-  pub asked : Requests block i t
-  pub plans-nothing : (u : ℕ) → u < n → Plans block i u → ⊥
-  pub unplanned : (h : ℕ) → h < n → Enabled n block h → Plans block h t → ⊥
+  pub asked : Requests n block i t
+  pub plans-nothing : (u : ℕ) → u < n → Plans n block i u → ⊥
+  pub unplanned : (h : ℕ) → h < n → Enabled n block h → Plans n block h t → ⊥
 
 -- rule 3: host h is enabled and plans target t
 pub record Claimant (n : ℕ) (block : List ℕ) (t h : ℕ) : Type 0 where
   pub enabled : Enabled n block h
-  pub plans : Plans block h t
+  pub plans : Plans n block h t
 
 -- rule 3: target t is given to host i, its first claimant in the rotation that starts at (I + t - J) mod n
 pub record Given (st : State) (block : List ℕ) (i t : ℕ) : Type 0 where
@@ -75,7 +77,7 @@ pub record Live (st : State) (block : List ℕ) (i t : ℕ) : Type 0 where
   pub initiator : i < st .ports
   pub target : t < st .ports
   pub enabled : Enabled (st .ports) block i
-  pub asked : Requests block i t
+  pub asked : Requests (st .ports) block i t
   pub given-none : (u : ℕ) → Given st block i u → ⊥
   pub given-to-none : (j : ℕ) → Given st block j t → ⊥
 
@@ -89,4 +91,4 @@ pub record AllButQen (a b : Answer Config) : Type 0 where
 -- rule 2: two blocks of one length differ in qen alone, host by host
 pub record QenAlone (n : ℕ) (a b : List ℕ) : Type 0 where
   pub same-length : length a ≡ length b
-  pub each : (h : ℕ) → h < n → AllButQen (says a h) (says b h)
+  pub each : (h : ℕ) → h < n → AllButQen (says n a h) (says n b h)

@@ -30,9 +30,9 @@ next st d = d .state
 abbrev pub served : State → LentCall → Bool
 served st d = eqb (d .answer .number) 0
 
--- it is served, the pair (i, t) is in its answer, and host i's grant frame in the lent output names t
+-- it is served, the pair (i, t) is in its answer, and host i's grant frame in the lent output has t in its set
 abbrev pub connects : ℕ → ℕ → State → LentCall → Bool
-connects i t st d = served st d && (asks (d .answer .sets) i t && slots.names (d .out) i t)
+connects i t st d = served st d && (asks (d .answer .sets) i t && slots.names (st .ports) (d .out) i t)
 
 abbrev pub Waiting : ℕ → ℕ → State → LentCall → Type 0
 Waiting i t st d = slots.Waiting i t st (d .call)

@@ -4,8 +4,7 @@ use mathlib.Core.Logic.{_⊎_}
 use mathlib.Core.Bool.{true}
 use Prim.Native.Nat.{ℕ, _*_, _^_, _≤_, _<_}
 use lib.ListN.{length}
-use Rattle.frames.specs.Config.{configLen}
-use Rattle.frames.specs.Grant.{grantLen}
+use Rattle.frames.specs.Part.{frameLen, toldLen}
 use Rattle.lcf.specs.Slot.{matched, behind}
 use Rattle.lcf.specs.declared.state.State.{State}
 use Rattle.lcf.specs.declared.state.Mode.{Mode}
@@ -34,7 +33,7 @@ Table m st c =
     (Row 3 ((1 ≤ behind st (c .slot)) × (behind st (c .slot) ≤ 2 ^ 31))
     (Row 4 (2 ^ 31 < behind st (c .slot))
     (Row 5 (WrongLimit m (c .mode))
-    (Row 6 (length (c .block) ≡ st .ports * configLen → ⊥)
-    (Row 7 (length (c .out) < st .ports * grantLen)
+    (Row 6 (length (c .block) ≡ st .ports * frameLen (st .ports) → ⊥)
+    (Row 7 (length (c .out) < st .ports * toldLen (st .ports))
     (Row 12 (Stuck m st c)
     (λ x. x ≡ 0))))))))

@@ -1,8 +1,10 @@
-// Runs frame vectors through the public calls, and writes what each answers: document 01's number, then the fields or the bytes.
+// Runs frame vectors through the public calls, and writes what each answers: the documents' number, then the fields or the bytes.
 use frames::Config;
 use frames::ConfigRead;
 use frames::Grant;
 use frames::GrantRead;
+use frames::Held;
+use frames::HeldRead;
 
 fn text(s: &[u8]) {
     io::write_all(1, s);
@@ -106,17 +108,46 @@ fn grant(frame: &[u8]) {
     }
 }
 
+fn held_fields(number: u64, g: Held) {
+    text(b"held");
+    decimal(number);
+    decimal(g.nodeid as u64);
+    flag(g.gntval);
+    flag(g.linkerr);
+    flag(g.crcerr);
+    decimal(g.set as u64);
+    text(b"\n");
+}
+
+fn held(frame: &[u8]) {
+    let zeros = Held {
+        nodeid: 0,
+        gntval: false,
+        linkerr: false,
+        crcerr: false,
+        set: 0,
+    };
+    let read = frames::read_held(frame);
+    match read {
+        HeldRead::Frame(g) => held_fields(0, g),
+        HeldRead::WrongLength => held_fields(8, zeros),
+        HeldRead::WrongType => held_fields(9, zeros),
+        HeldRead::WrongCheck => held_fields(10, zeros),
+        HeldRead::WrongForm => held_fields(11, zeros),
+    }
+}
+
 // The flags as in the frame: gntVal, linkErr and CRCErr in bits 0, 1 and 2.
-fn write_grant(nodeid: u8, gnt: u8, flags: u8, out: &mut [u8]) {
-    let grant = Grant {
+fn write_held(nodeid: u8, flags: u8, set: u16, out: &mut [u8]) {
+    let held = Held {
         nodeid,
-        gnt,
         gntval: flags % 2 == 1,
         linkerr: flags / 2 % 2 == 1,
         crcerr: flags / 4 % 2 == 1,
+        set,
     };
-    text(b"grant");
-    let number = frames::write_grant(grant, out);
+    text(b"held");
+    let number = frames::write_held(held, out);
     written(number, out);
 }
 
@@ -164,40 +195,49 @@ fn written_configs() {
     write_config(1, 2, 4, 8, &mut out10);
 }
 
-// Valid, damaged, short, long, of another type, and out of form.
+// Of type 2: valid, damaged, short, long, of another type, and out of form.
 fn grants() {
     grant(b"\x02\x35\x05\x08\x39");
     grant(b"\x02\xff\x03\x91\x60");
-    grant(b"\x02\x00\x01\xb2\xdd");
-    grant(b"\x02\x70\x06\xca\x63");
     grant(b"\x02\x00\x00\xa2\xfc");
-    grant(b"\x02\x25\x05\x08\x39");
     grant(b"\x02\x35\x05\x08\x38");
     grant(b"\x02\x35\x05\x08");
     grant(b"\x02\x35\x05\x08\x39\x00");
-    grant(b"");
-    grant(b"\x01\x01\x02\x80\x03\xff\xff\x00\xf0\x85\x4c");
     grant(b"\x01\x35\x05\x51\x69");
-    grant(b"\x00\x00\x00\x00\x00");
     grant(b"\x02\x35\x09\xc9\xb5");
-    grant(b"\x02\x35\x81\xd9\x35");
     grant(b"\x02\x35\x04\x18\x18");
-    grant(b"\x02\x30\x40\xef\xad");
+}
+
+// Of type 3: valid, damaged, short, long, of another type, and out of form.
+fn helds() {
+    held(b"\x03\x03\x05\x12\x34\x9c\x34");
+    held(b"\x03\x0f\x03\xff\xff\x6f\x6f");
+    held(b"\x03\x07\x06\x00\x00\x1c\x53");
+    held(b"\x03\x00\x00\x00\x00\xff\xde");
+    held(b"\x03\x03\x05\x12\x34\x9c\x35");
+    held(b"\x03\x03\x05\x12\x34\x9c");
+    held(b"\x03\x03\x05\x12\x34\x9c\x34\x00");
+    held(b"\x02\x03\x05\x12\x34\x36\x65");
+    held(b"\x03\x03\x09\x12\x34\xe9\x55");
+    held(b"\x03\x03\x81\x12\x34\x7b\xae");
+    held(b"\x03\x10\x05\x12\x34\x1c\x4f");
+    held(b"\x03\x03\x04\x12\x34\xab\x04");
+    held(b"\x03\x03\x05\x00\x00\x8f\xf2");
 }
 
 // With room, with more and with too little; and out of form, which comes before too little room.
-fn written_grants() {
-    let mut whole = [0xAAu8; 5];
-    write_grant(3, 5, 5, &mut whole);
-    let mut more = [0xAAu8; 7];
-    write_grant(15, 0, 2, &mut more);
-    let mut less = [0xAAu8; 4];
-    write_grant(0, 0, 0, &mut less);
-    let mut kept = [0xAAu8; 5];
-    write_grant(16, 0, 0, &mut kept);
-    write_grant(0, 16, 1, &mut kept);
-    write_grant(0, 1, 0, &mut kept);
-    write_grant(16, 0, 0, &mut less);
+fn written_helds() {
+    let mut whole = [0xAAu8; 7];
+    write_held(3, 5, 4660, &mut whole);
+    let mut more = [0xAAu8; 9];
+    write_held(15, 2, 0, &mut more);
+    let mut less = [0xAAu8; 6];
+    write_held(0, 0, 0, &mut less);
+    let mut kept = [0xAAu8; 7];
+    write_held(16, 0, 0, &mut kept);
+    write_held(0, 1, 0, &mut kept);
+    write_held(0, 0, 1, &mut kept);
+    write_held(16, 0, 0, &mut less);
 }
 
 // Found; and n, the block and h out of range.
@@ -223,6 +263,7 @@ fn main() {
     configs();
     written_configs();
     grants();
-    written_grants();
+    helds();
+    written_helds();
     hosts();
 }

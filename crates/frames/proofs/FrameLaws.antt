@@ -2,17 +2,17 @@
 use mathlib.Core.Path.{_≡_, refl, sym, ap, _∙_}
 use mathlib.Core.Bool.{Bool, true, false, not, cond}
 use mathlib.Core.List.{List, _∷_}
-use Prim.Native.Nat.{ℕ, suc, _+_, _-_, _≤_, _<_}
+use Prim.Native.Nat.{ℕ, zero, suc, _+_, _-_, _≤_, _<_}
 use native.Mathlib.Omega.{arith}
 use borrow.Author.Tests.{eq-eqb, eqb-true}
-use lib.Dec.{eqb}
+use lib.Dec.{eqb, eqb·suc-zero}
 use lib.ListN.{length, getD, take, drop, length-drop}
 use lib.Seq.{length-take-le, take-at, drop-cons}
 use Rattle.laws.specs.Bytes.{Bytes}
 use Rattle.laws.proofs.Bytes.{bytes-drop, bytes-take}
 use Rattle.words.specs.Check.{checked, front, intact}
 use Rattle.words.proofs.CheckLaws.{length-checked, checked-intact, intact-checked}
-use Rattle.frames.specs.Frame.{sealed, bodyOf, formNumber, formAnswer, answered, roomNumber, written}
+use Rattle.frames.specs.Frame.{sealed, bodyOf, formNumber, formedNumber, formAnswer, answered, roomNumber, written}
 use Rattle.frames.specs.declared.frame.Form.{Form}
 
 pub length-sealed : (type : ℕ) (body : List ℕ) → length (sealed type body) ≡ length body + 3
@@ -35,6 +35,15 @@ unfolding formNumber
 sound len type s e =
     let p = passed (eqb (length s) len) (eqb (getD s 0 0) type) (intact s) e in
     record { long = eqb-true _ _ (p .0); typed = eqb-true _ _ (p .1); checks = p .2 }
+
+-- number 0 is neither 8 to 10 nor 11
+pub formed-zero : (len type : ℕ) (inForm : List ℕ → Bool) (s : List ℕ) → formedNumber len type inForm s ≡ 0 → (formNumber len type s ≡ 0) × (inForm (bodyOf len s) ≡ true)
+formed-zero len type inForm s = go (formNumber len type s) (inForm (bodyOf len s))
+  where
+    go : (k : ℕ) (ok : Bool) → cond (eqb k 0) (cond ok 0 11) k ≡ 0 → (k ≡ 0) × (ok ≡ true)
+    go zero true e = (refl, refl)
+    go zero false e = absurd (omega arith)
+    go (suc k) ok e = let z : suc k ≡ 0 = rw (eqb·suc-zero k) at e in absurd (omega arith)
 
 -- the number that an opening which came out as v stands for
 pub told : {r : Form} (v : Form) {k : ℕ} → r ≡ v → formAnswer r ≡ k → k ≡ formAnswer v

@@ -2,6 +2,7 @@
 use Prim.Native.Nat.{ℕ}
 use mathlib.Core.List.{List, [], _∷_}
 use Rattle.laws.specs.Bytes.{row, field}
+use Rattle.frames.specs.Width.{narrow}
 use Rattle.frames.specs.Frame.{sealed, bodyOf, formNumber, Answer, answered, roomNumber, written}
 use Rattle.frames.specs.declared.config.Config.{Config}
 use Rattle.frames.specs.declared.config.ConfigRead.{ConfigRead}
@@ -13,15 +14,11 @@ configLen = 11
 abbrev pub configType : ℕ
 configType = 1
 
--- the bytes of a field
-abbrev pub configWidth : ℕ
-configWidth = 2
-
 abbrev pub configFields : Config → List ℕ
 configFields c = c .req ∷ c .pre ∷ c .ben ∷ c .qen ∷ []
 
 unfoldable pub configFrame : Config → List ℕ
-configFrame c = sealed configType (row configWidth (configFields c))
+configFrame c = sealed configType (row narrow (configFields c))
 
 -- the fields, of w bytes each, that stand in a body
 unfoldable pub configOf : ℕ → List ℕ → Config
@@ -39,7 +36,7 @@ configAnswer WrongCheck = record { number = 10; fields = noConfig }
 
 -- what reading s answers
 abbrev pub readConfig : List ℕ → Answer Config
-readConfig s = answered (formNumber configLen configType s) (configOf configWidth (bodyOf configLen s)) noConfig
+readConfig s = answered (formNumber configLen configType s) (configOf narrow (bodyOf configLen s)) noConfig
 
 -- what writing c to an output answers, and what the output then holds
 abbrev pub writeConfigNumber : List ℕ → ℕ

@@ -1,4 +1,4 @@
--- What every frame shares: type, body and check; and the numbers 7 to 10.
+-- What every frame shares: type, body and check; and the numbers 7 to 11.
 use Prim.Native.Nat.{ℕ, _-_}
 use mathlib.Core.Bool.{Bool, not, cond}
 use mathlib.Core.List.{List, _∷_, _++_}
@@ -25,6 +25,13 @@ formNumber len type s =
     cond (differs (length s) len) 8
     (cond (differs (getD s 0 0) type) 9
     (cond (intact s) 0 10))
+
+-- and then 11, if the body of such a frame is not in form
+abbrev pub formedNumber : ℕ → ℕ → (List ℕ → Bool) → List ℕ → ℕ
+formedNumber len type inForm s =
+    cond (eqb (formNumber len type s) 0)
+    (cond (inForm (bodyOf len s)) 0 11)
+    (formNumber len type s)
 
 abbrev pub formAnswer : Form → ℕ
 formAnswer Sound = 0

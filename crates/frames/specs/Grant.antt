@@ -1,11 +1,12 @@
--- The grant frame, 5 bytes: type 2; nodeId and gnt, four bits each; the flags; check.
+-- The grant frame of type 2, 5 bytes, which is read and no longer written: type; nodeId and gnt, four bits each; the flags; check.
 use Prim.Native.Nat.{ℕ, _+_, _*_, _/_, _%_}
-use mathlib.Core.Bool.{Bool, false, _&&_, _||_, cond}
+use mathlib.Core.Bool.{Bool, false, _&&_, _||_}
 use mathlib.Core.List.{List, [], _∷_}
 use lib.Dec.{eqb, leb}
 use lib.ListN.{getD}
 use Rattle.laws.specs.Sets.{has}
-use Rattle.frames.specs.Frame.{sealed, bodyOf, formNumber, Answer, answered, roomNumber, written}
+use Rattle.frames.specs.Flags.{flags, zerosAbove}
+use Rattle.frames.specs.Frame.{sealed, bodyOf, formedNumber, Answer, answered}
 use Rattle.frames.specs.declared.grant.Grant.{Grant}
 use Rattle.frames.specs.declared.grant.GrantRead.{GrantRead}
 use Rattle.frames.specs.declared.grant.GrantRead.the-variants.{Frame, WrongLength, WrongType, WrongCheck, WrongForm}
@@ -20,16 +21,9 @@ grantType = 2
 abbrev pub agrees : Grant → Bool
 agrees g = g .gntval || eqb (g .gnt) 0
 
--- in form to be written
+-- in form
 unfoldable pub inForm : Grant → Bool
 inForm g = leb (g .nodeid) 15 && (leb (g .gnt) 15 && agrees g)
-
-abbrev pub bit : Bool → ℕ
-bit b = cond b 1 0
-
--- gntVal in bit 0, linkErr in bit 1, CRCErr in bit 2
-abbrev pub flags : Bool → Bool → Bool → ℕ
-flags gntval linkerr crcerr = bit gntval + 2 * bit linkerr + 4 * bit crcerr
 
 abbrev pub grantBody : Grant → List ℕ
 grantBody g = (g .nodeid * 16 + g .gnt) ∷ flags (g .gntval) (g .linkerr) (g .crcerr) ∷ []
@@ -47,9 +41,9 @@ grantOf body =
       crcerr = has (getD body 1 0) 2;
     }
 
--- in form as read: zeros above the flags
+-- in form as read
 unfoldable pub bodyInForm : List ℕ → Bool
-bodyInForm body = leb (getD body 1 0) 7 && agrees (grantOf body)
+bodyInForm body = zerosAbove (getD body 1 0) && agrees (grantOf body)
 
 abbrev pub noGrant : Grant
 noGrant = record { nodeid = 0; gnt = 0; gntval = false; linkerr = false; crcerr = false }
@@ -64,18 +58,8 @@ grantAnswer WrongForm = record { number = 11; fields = noGrant }
 
 -- the numbers 8 to 10, then 11
 abbrev pub grantNumber : List ℕ → ℕ
-grantNumber s =
-    cond (eqb (formNumber grantLen grantType s) 0)
-    (cond (bodyInForm (bodyOf grantLen s)) 0 11)
-    (formNumber grantLen grantType s)
+grantNumber s = formedNumber grantLen grantType bodyInForm s
 
 -- what reading s answers
 abbrev pub readGrant : List ℕ → Answer Grant
 readGrant s = answered (grantNumber s) (grantOf (bodyOf grantLen s)) noGrant
-
--- what writing g to an output answers, 11 before 7, and what the output then holds
-abbrev pub writeGrantNumber : Grant → List ℕ → ℕ
-writeGrantNumber g out = cond (inForm g) (roomNumber grantLen out) 11
-
-abbrev pub writeGrantOutput : Grant → List ℕ → List ℕ
-writeGrantOutput g out = written (writeGrantNumber g out) grantLen (grantFrame g) out

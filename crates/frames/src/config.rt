@@ -3,7 +3,8 @@ ghost use mathlib.Core.Path.{_≡_};
 ghost use Prim.Native.Nat.{_+_, _-_, _≤_};
 ghost use lib.ListN.{length, take, drop};
 ghost use Rattle.laws.specs.Bytes.{number};
-ghost use Rattle.frames.specs.Config.{configLen, configWidth, configFrame, configOf, configAnswer, readConfig, writeConfigNumber, writeConfigOutput};
+ghost use Rattle.frames.specs.Width.{narrow};
+ghost use Rattle.frames.specs.Config.{configLen, configFrame, configOf, configAnswer, readConfig, writeConfigNumber, writeConfigOutput};
 use crate::frame::Form;
 use crate::frame::open;
 use crate::frame::put;
@@ -25,7 +26,7 @@ pub enum ConfigRead {
 }
 
 // The sixteen bits that start at byte `at`.
-fn word(s: &[u8], at: usize) -> u16
+pub(crate) fn word(s: &[u8], at: usize) -> u16
     requires { ⌜ at + 2 ≤ length (now s) ⌝ }
     ensures { λ r. ⌜ r ≡ number (take 2 (drop at (now (s .entry)))) ⌝ }
 {
@@ -65,7 +66,7 @@ impl Config {
 
     fn of(body: &[u8]) -> Config
         requires { ⌜ length (now body) ≡ configLen - 3 ⌝ }
-        ensures { λ r. ⌜ r ≡ configOf configWidth (now (body .entry)) ⌝ }
+        ensures { λ r. ⌜ r ≡ configOf narrow (now (body .entry)) ⌝ }
     {
         Config {
             req: word(body, 0),

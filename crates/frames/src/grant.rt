@@ -1,13 +1,12 @@
-// The grant frame.
+// The grant frame of type 2, which is read and no longer written.
 ghost use mathlib.Core.Path.{_≡_};
-ghost use Prim.Native.Nat.{_-_, _≤_};
+ghost use Prim.Native.Nat.{_-_};
 ghost use lib.ListN.{length};
 ghost use mathlib.Core.Bool.{cond};
 ghost use Rattle.frames.specs.Frame.{answered};
-ghost use Rattle.frames.specs.Grant.{grantLen, agrees, inForm, bit, grantFrame, grantOf, bodyInForm, noGrant, grantAnswer, readGrant, writeGrantNumber, writeGrantOutput};
+ghost use Rattle.frames.specs.Grant.{grantLen, agrees, grantOf, bodyInForm, noGrant, grantAnswer, readGrant};
 use crate::frame::Form;
 use crate::frame::open;
-use crate::frame::put;
 use words::holds;
 
 // Document 01's nodeId, gnt, gntVal, linkErr and CRCErr.
@@ -28,12 +27,6 @@ pub enum GrantRead {
     WrongForm,
 }
 
-fn bit(b: bool) -> u8
-    ensures { λ r. ⌜ (r ≡ bit b) × (r ≤ 1) ⌝ }
-{
-    if b { 1 } else { 0 }
-}
-
 impl Grant {
     const TYPE: u8 = 2;
 
@@ -45,27 +38,6 @@ impl Grant {
         ensures { λ r. ⌜ r ≡ agrees self ⌝ }
     {
         self.gntval | (self.gnt == 0)
-    }
-
-    fn in_form(self) -> bool
-        ensures { λ r. ⌜ r ≡ inForm self ⌝ }
-    {
-        (self.nodeid <= 15) & ((self.gnt <= 15) & self.agrees())
-    }
-
-    fn frame(self) -> [u8; Grant::LEN]
-        requires { ⌜ (self .nodeid ≤ 15) × (self .gnt ≤ 15) ⌝ }
-        ensures { λ r. ⌜ r ≡ grantFrame self ⌝ }
-    {
-        let mut frame = [
-            Grant::TYPE,
-            self.nodeid * 16 + self.gnt,
-            bit(self.gntval) + 2 * bit(self.linkerr) + 4 * bit(self.crcerr),
-            0,
-            0,
-        ];
-        words::seal(&mut frame);
-        frame
     }
 
     fn of(body: &[u8]) -> Grant
@@ -106,14 +78,4 @@ pub fn read_grant(frame: &[u8]) -> GrantRead
         Form::WrongCheck => GrantRead::WrongCheck,
         Form::Sound => grant_of(&frame[1..1 + Grant::PART]),
     }
-}
-
-pub fn write_grant(g: Grant, out: &mut [u8]) -> u8
-    ensures { λ r. ⌜ (r ≡ writeGrantNumber g (now (out .entry))) × (now (out .exit) ≡ writeGrantOutput g (now (out .entry))) ⌝ }
-{
-    if g.in_form() {
-        let frame = g.frame();
-        return put(&frame, out);
-    }
-    11
 }

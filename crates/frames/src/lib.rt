@@ -2,6 +2,7 @@
 mod config;
 mod frame;
 mod grant;
+mod held;
 mod part;
 
 pub use config::Config;
@@ -11,6 +12,9 @@ pub use config::write_config;
 pub use grant::Grant;
 pub use grant::GrantRead;
 pub use grant::read_grant;
-pub use grant::write_grant;
+pub use held::Held;
+pub use held::HeldRead;
+pub use held::read_held;
+pub use held::write_held;
 pub use part::Ports;
 pub use part::host_frame;

@@ -1,8 +1,7 @@
 // A host's frame in a slot block.
 ghost use mathlib.Core.Path.{_≡_};
 ghost use Prim.Native.Nat.{_+_};
-ghost use Rattle.frames.specs.Config.{configLen};
-ghost use Rattle.frames.specs.Part.{mostPorts, hostNumber, hostStart, hostPart};
+ghost use Rattle.frames.specs.Part.{mostPorts, frameLen, hostNumber, hostStart, hostPart};
 use crate::config::Config;
 
 pub struct Ports {}
@@ -14,7 +13,7 @@ impl Ports {
 
 // Shows that part of the block itself.
 pub fn host_frame<'a>(n: usize, h: usize, block: &'a [u8], number: &mut u8) -> &'a [u8]
-    ensures { λ r. ⌜ (now r ≡ hostPart mostPorts configLen n h (now (block .entry))) × (r .ptr ≡ (block .entry .ptr .0, block .entry .ptr .1 + hostStart mostPorts configLen n h (now (block .entry)))) × (now (number .exit) ≡ hostNumber mostPorts configLen n h (now (block .entry))) ⌝ }
+    ensures { λ r. ⌜ (now r ≡ hostPart mostPorts (frameLen n) n h (now (block .entry))) × (r .ptr ≡ (block .entry .ptr .0, block .entry .ptr .1 + hostStart mostPorts (frameLen n) n h (now (block .entry)))) × (now (number .exit) ≡ hostNumber mostPorts (frameLen n) n h (now (block .entry))) ⌝ }
 {
     if n < 1 {
         *number = 1;

@@ -12,8 +12,7 @@ use Rattle.laws.specs.Steps.{steps}
 use Rattle.laws.proofs.Loops.{same-steps}
 use Rattle.laws.proofs.Parts.{length-parts, part-at}
 use Rattle.laws.proofs.Tests.{every, arms}
-use Rattle.frames.specs.Config.{configLen}
-use Rattle.frames.specs.Part.{mostPorts}
+use Rattle.frames.specs.Part.{mostPorts, frameLen}
 use Rattle.lcf.specs.Advance.{advance}
 use Rattle.lcf.specs.Modes.{modeOf}
 use Rattle.lcf.specs.Slot.{wrongLimit, dueNumber, declined, slotOnTables}
@@ -23,7 +22,7 @@ use Rattle.lcf.proofs.Slots as tables
 use Rattle.demands.specs.SlotCall.{SlotCall, number}
 use Rattle.demands.proofs.SlotCalls.{whole, same-number}
 use Rattle.demands.proofs.SlotServed.{served-advances}
-use Rattle.trace_parts.specs.Layout.{frameLen, blockLen, mostMode}
+use Rattle.trace_parts.specs.Layout.{blockLen, mostMode}
 use Rattle.trace_parts.specs.Body.{formed}
 use Rattle.trace_writer.proofs.Fitting.{BodyFits}
 use Rattle.live_replays.specs.Live.{liveState, Served, recordedFields}
@@ -74,8 +73,8 @@ module _ (mode : ℕ) (calls : ℕ → SlotCall) (st : State) (slots : ℕ) (h :
 
   -- the blocks are of one length
   block-long : (k : ℕ) → k < slots → length (calls k .block) ≡ blockLen n
-  unfolding blockLen frameLen
-  block-long k l = whole mostPorts (live k) (calls k) (h .served k l) .whole-block ∙ ap (λ (p : ℕ). p * configLen) (live-ports k (omega arith))
+  unfolding blockLen
+  block-long k l = whole mostPorts (live k) (calls k) (h .served k l) .whole-block ∙ ap (λ (p : ℕ). p * frameLen p) (live-ports k (omega arith))
 
   -- block i, and the first beyond the last
   abbrev padded : ℕ → List ℕ

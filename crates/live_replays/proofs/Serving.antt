@@ -12,9 +12,7 @@ use lib.Seq.{length-take-le}
 use borrow.Author.Tests.{leb-true, ltb-true, lt-ltb, le-leb}
 use Rattle.laws.specs.Steps.{steps}
 use Rattle.laws.proofs.Tests.{both, every, in-range}
-use Rattle.frames.specs.Config.{configLen}
-use Rattle.frames.specs.Grant.{grantLen}
-use Rattle.frames.specs.Part.{mostPorts}
+use Rattle.frames.specs.Part.{mostPorts, frameLen, toldLen}
 use Rattle.lcf.specs.Advance.{advance}
 use Rattle.lcf.specs.Modes.{modeOf}
 use Rattle.lcf.specs.declared.state.State.{State}
@@ -25,7 +23,7 @@ use Rattle.demands.specs.Refusal.{InOrder}
 use Rattle.demands.specs.SlotCall.{SlotCall, called, number}
 use Rattle.demands.proofs.Refusal.{advance-valid}
 use Rattle.demands.proofs.SlotServed.{served-in-order, served-advances}
-use Rattle.trace_parts.specs.Layout.{frameLen, blockLen, mostMode}
+use Rattle.trace_parts.specs.Layout.{blockLen, mostMode}
 use Rattle.trace_parts.specs.Body.{fieldsOf, formed, bodySound, readFields, blockAt, hasBlock, blockPart}
 use Rattle.trace_parts.proofs.BodyLaws.{Sound, sound, is-complete, block, least-body}
 use Rattle.replays.specs.Replay.{startState, replaySlot, stateBefore, replayed}
@@ -58,8 +56,8 @@ module _ (n slots first : ℕ) (body : List ℕ) (is-sound : bodySound mostPorts
   unfolding replaySlot unanswered
   as-called k st = refl
 
-  block-long : (k : ℕ) → k < slots → length (blockPart mostPorts n slots k body) ≡ n * configLen
-  unfolding hasBlock blockLen frameLen
+  block-long : (k : ℕ) → k < slots → length (blockPart mostPorts n slots k body) ≡ n * frameLen n
+  unfolding hasBlock blockLen
   block-long k l =
       let has : hasBlock mostPorts n slots k body ≡ true = every (is-complete (known .whole)) (lt-ltb k slots l) in
       let b = block mostPorts n slots k body has in
@@ -72,7 +70,7 @@ module _ (n slots first : ℕ) (body : List ℕ) (is-sound : bodySound mostPorts
   serves-one : (k : ℕ) (st : State) → k < slots → InOrder mostPorts st → st .ports ≡ n → number mostPorts st (call k st) ≡ 0
   serves-one k st l o same =
       served-in-order mostPorts st (call k st) o refl (λ w. small-limit mostPorts _ mode-most (rw read at w))
-      (block-long k l ∙ ap (λ (p : ℕ). p * configLen) (sym same)) (le-of-eq (sym (length-replicate (st .ports * grantLen) 0)))
+      (block-long k l ∙ ap (λ (p : ℕ). p * frameLen p) (sym same)) (le-of-eq (sym (length-replicate (st .ports * toldLen (st .ports)) 0)))
 
   pub record There (k : ℕ) : Type 0 where
     pub in-order : InOrder mostPorts (at k)

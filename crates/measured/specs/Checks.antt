@@ -1,4 +1,4 @@
--- The checks of one slot of 16 ports: of 9 bytes for each configuration frame and of 3 for each grant frame, summed so that none is idle.
+-- The checks of one slot of 16 ports: of 9 bytes for each configuration frame and of 5 for each grant frame, summed so that none is idle.
 use Prim.Native.Nat.{ℕ, _*_}
 use mathlib.Core.Bool.{cond}
 use mathlib.Core.List.{List}
@@ -9,7 +9,7 @@ use Rattle.laws.specs.Steps.{steps}
 use Rattle.words.specs.Check.{crcOf}
 
 abbrev pub checksOf : List ℕ → ℕ
-checksOf part = bitXor (crcOf part) (crcOf (take 3 part))
+checksOf part = bitXor (crcOf part) (crcOf (take 5 part))
 
 -- the first k parts of 9 bytes
 abbrev pub checksTo : List ℕ → ℕ → ℕ

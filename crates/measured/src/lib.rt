@@ -22,7 +22,7 @@ fn both(part: &[u8]) -> u16
     requires { ⌜ length (now part) ≡ 9 ⌝ }
     ensures { λ r. ⌜ r ≡ checksOf (now (part .entry)) ⌝ }
 {
-    words::crc(part) ^ words::crc(&part[..3])
+    words::crc(part) ^ words::crc(&part[..5])
 }
 
 // All checks of one slot in one call, so that the compiler knows their lengths, as it does in the slot.

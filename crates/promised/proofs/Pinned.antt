@@ -8,9 +8,7 @@ use lib.Dec.{eqb·suc-zero}
 use lib.ListN.{length, take}
 use Rattle.laws.specs.Bytes.{bigEndian}
 use Rattle.laws.proofs.Bytes.{number-big}
-use Rattle.frames.specs.Config.{configLen}
-use Rattle.frames.specs.Grant.{grantLen}
-use Rattle.frames.specs.Part.{mostPorts}
+use Rattle.frames.specs.Part.{mostPorts, frameLen, toldLen}
 use Rattle.lcf.specs.Modes.{modeOf}
 use Rattle.lcf.specs.Ready.{fresh}
 use Rattle.lcf.specs.declared.state.State.{State}
@@ -59,7 +57,7 @@ module _ (m n due : ℕ) (some : 1 ≤ n) (most : n ≤ m) (due< : due < 2 ^ 32)
       (λ k. record { ports = n; initiator = record { 0 = 0 }; target = record { 0 = 0 }; due = d k }) ∙ ap (λ (f : Fresh). f .state) (sym (fresh-is m n due some most))
 
   pub fresh-serves-in-bytes : (d : CCall) → let state = n ∷ 0 ∷ 0 ∷ bigEndian 4 due in
-      Kept m state d → Lengths m state d → d .handed .slot ≡ due → d .handed .mode ≤ m → length (d .handed .block) ≡ n * configLen → n * grantLen ≤ length (d .handed .out)
+      Kept m state d → Lengths m state d → d .handed .slot ≡ due → d .handed .mode ≤ m → length (d .handed .block) ≡ n * frameLen n → n * toldLen n ≤ length (d .handed .out)
       → number d ≡ 0
   fresh-serves-in-bytes d kept right named mode block out =
       number-there m _ d kept right

@@ -14,7 +14,7 @@ pub use Rattle.promised.proofs.Calls.{served-call}
 pub use Rattle.promised.proofs.Pinned.{rounds-in-word}
 -- Demand 3, the share, in the bytes of the table and of the output.
 pub use Rattle.promised.proofs.Histories.{share}
--- What pins the definitions down: a state and a word read back; the mode; qen is unused; cases D and I as C calls, byte for byte.
+-- What pins the definitions down: a state and a word read back; the mode; qen is unused; cases F and I as C calls, byte for byte.
 pub use Rattle.bellacush.proofs.Trips.{state-reads-back, due-small, word-number, word-rounds}
 pub use Rattle.promised.proofs.Pinned.{limit-exactly, qen-unused-in-bytes}
 pub use Rattle.promised.proofs.Worked.{worked}

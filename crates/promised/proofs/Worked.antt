@@ -1,4 +1,4 @@
--- Cases D and I of document 01 as C calls, byte for byte: one computed statement over the definitions.
+-- Cases F and I of document 01 as C calls, byte for byte: one computed statement over the definitions.
 use mathlib.Core.Path.{_≡_, refl}
 use mathlib.Core.List.{List, [], _∷_, _++_}
 use Prim.Native.Nat.{ℕ, _-_, _*_}
@@ -9,7 +9,7 @@ use Rattle.laws.specs.Bytes.{bigEndian, numberFrom}
 use Rattle.words.specs.Check.{crcBit, crcByte, crcFrom, intact}
 use Rattle.frames.specs.Frame.{formNumber}
 use Rattle.frames.specs.Config.{configOf}
-use Rattle.frames.specs.Grant.{grantFrame}
+use Rattle.frames.specs.Held.{heldFrame}
 use Rattle.frames.specs.Part.{mostPorts, hostNumber}
 use Rattle.lcf.specs.Heard.{present, counted}
 use Rattle.lcf.specs.Choice.{choice}
@@ -21,45 +21,46 @@ use Rattle.lcf.specs.Advance.{advance}
 use Rattle.lcf.specs.Modes.{modeOf}
 use Rattle.lcf.specs.Slot.{within, start, serveMode, matched, behind, wrongLimit, dueNumber, declined, ended, slotOnTables}
 use Rattle.shelf.specs.Hosts.{said, hostsOf}
-use Rattle.shelf.specs.Grants.{lowest, grantFor, granted}
+use Rattle.shelf.specs.Grants.{grantFor, granted}
 use Rattle.shelf.specs.Step.{refusal, slotOnHosts, stepped, output}
 use Rattle.bellacush.specs.Slot.{stateOf, stateBytes, stateAfter, tableAfter, fits, run, slotWord, slotState, slotTable, slotOutput}
 use Rattle.promised.specs.Call.{Handed, promise}
 
--- a call with a block of three frames, each with ben 7 and qen 0x0102; 16 bytes of output and two of table for each set, all of them 9; the
+-- a call with a block of frames that each have ben 15 and qen 0x0102; 29 bytes of output and two of table for each set, all of them 9; the
 -- link of host 1 is down
 abbrev pub slotOf : ℕ → ℕ → List ℕ → Handed
-slotOf slot mode block = record { lent = 7; slot = slot; mode = mode; block = block; link = 2; out = replicate 16 9; table = replicate (mostPorts * 2) 9 }
+slotOf slot mode block = record { lent = 7; slot = slot; mode = mode; block = block; link = 2; out = replicate 29 9; table = replicate (mostPorts * 2) 9 }
 
--- D is served at (1, 2) in slot 0x01020304, with a byte after the state's seven
-abbrev pub caseD : Handed
-caseD =
+-- F, with its multicast, is served at (3, 1) in slot 0x01020304, with a byte after the state's seven
+abbrev pub caseF : Handed
+caseF =
     slotOf 0x01020304 0
-    ((1 ∷ 0 ∷ 5 ∷ 0 ∷ 0 ∷ 0 ∷ 7 ∷ 1 ∷ 2 ∷ 28 ∷ 21 ∷ [])
-    ++ (1 ∷ 0 ∷ 0 ∷ 0 ∷ 0 ∷ 0 ∷ 7 ∷ 1 ∷ 2 ∷ 101 ∷ 178 ∷ [])
-    ++ (1 ∷ 0 ∷ 6 ∷ 0 ∷ 0 ∷ 0 ∷ 7 ∷ 1 ∷ 2 ∷ 196 ∷ 151 ∷ []))
+    ((1 ∷ 0 ∷ 9 ∷ 0 ∷ 8 ∷ 0 ∷ 15 ∷ 1 ∷ 2 ∷ 229 ∷ 242 ∷ [])
+    ++ (1 ∷ 0 ∷ 3 ∷ 0 ∷ 0 ∷ 0 ∷ 15 ∷ 1 ∷ 2 ∷ 20 ∷ 145 ∷ [])
+    ++ (1 ∷ 0 ∷ 0 ∷ 0 ∷ 0 ∷ 0 ∷ 15 ∷ 1 ∷ 2 ∷ 204 ∷ 19 ∷ [])
+    ++ (1 ∷ 0 ∷ 0 ∷ 0 ∷ 10 ∷ 0 ∷ 15 ∷ 1 ∷ 2 ∷ 138 ∷ 189 ∷ []))
 
 -- I is served at (2, 0) in the last slot, with limit 2
 abbrev pub caseI : Handed
 caseI =
     slotOf 0xFFFFFFFF 2
-    ((1 ∷ 0 ∷ 3 ∷ 0 ∷ 0 ∷ 0 ∷ 7 ∷ 1 ∷ 2 ∷ 189 ∷ 48 ∷ [])
-    ++ (1 ∷ 0 ∷ 7 ∷ 0 ∷ 0 ∷ 0 ∷ 7 ∷ 1 ∷ 2 ∷ 124 ∷ 246 ∷ [])
-    ++ (1 ∷ 0 ∷ 4 ∷ 0 ∷ 0 ∷ 0 ∷ 7 ∷ 1 ∷ 2 ∷ 164 ∷ 116 ∷ []))
+    ((1 ∷ 0 ∷ 3 ∷ 0 ∷ 0 ∷ 0 ∷ 15 ∷ 1 ∷ 2 ∷ 20 ∷ 145 ∷ [])
+    ++ (1 ∷ 0 ∷ 7 ∷ 0 ∷ 0 ∷ 0 ∷ 15 ∷ 1 ∷ 2 ∷ 213 ∷ 87 ∷ [])
+    ++ (1 ∷ 0 ∷ 4 ∷ 0 ∷ 0 ∷ 0 ∷ 15 ∷ 1 ∷ 2 ∷ 13 ∷ 213 ∷ []))
 
-pub worked : (promise mostPorts (3 ∷ 1 ∷ 2 ∷ 1 ∷ 2 ∷ 3 ∷ 4 ∷ 77 ∷ []) caseD
+pub worked : (promise mostPorts (4 ∷ 3 ∷ 1 ∷ 1 ∷ 2 ∷ 3 ∷ 4 ∷ 77 ∷ []) caseF
     ≡ record {
       word = 0;
-      state = 3 ∷ 2 ∷ 2 ∷ 1 ∷ 2 ∷ 3 ∷ 5 ∷ 77 ∷ [];
-      out = 2 ∷ 0 ∷ 1 ∷ 178 ∷ 221 ∷ 2 ∷ 16 ∷ 2 ∷ 129 ∷ 205 ∷ 2 ∷ 34 ∷ 1 ∷ 210 ∷ 89 ∷ 9 ∷ [];
-      table = 0 ∷ 1 ∷ 0 ∷ 0 ∷ 0 ∷ 4 ∷ replicate (mostPorts * 2 - 6) 0;
+      state = 4 ∷ 0 ∷ 2 ∷ 1 ∷ 2 ∷ 3 ∷ 5 ∷ 77 ∷ [];
+      out = 3 ∷ 0 ∷ 1 ∷ 0 ∷ 1 ∷ 216 ∷ 207 ∷ 3 ∷ 1 ∷ 2 ∷ 0 ∷ 0 ∷ 231 ∷ 10 ∷ 3 ∷ 2 ∷ 0 ∷ 0 ∷ 0 ∷ 18 ∷ 182 ∷ 3 ∷ 3 ∷ 1 ∷ 0 ∷ 10 ∷ 242 ∷ 120 ∷ 9 ∷ [];
+      table = 0 ∷ 1 ∷ 0 ∷ 0 ∷ 0 ∷ 0 ∷ 0 ∷ 10 ∷ replicate (mostPorts * 2 - 8) 0;
     })
     × (promise mostPorts (3 ∷ 2 ∷ 0 ∷ 255 ∷ 255 ∷ 255 ∷ 255 ∷ []) caseI
     ≡ record {
       word = 512;
       state = 3 ∷ 0 ∷ 1 ∷ 0 ∷ 0 ∷ 0 ∷ 0 ∷ [];
-      out = 2 ∷ 1 ∷ 1 ∷ 129 ∷ 236 ∷ 2 ∷ 16 ∷ 3 ∷ 145 ∷ 236 ∷ 2 ∷ 34 ∷ 1 ∷ 210 ∷ 89 ∷ 9 ∷ [];
+      out = (3 ∷ 0 ∷ 1 ∷ 0 ∷ 2 ∷ 232 ∷ 172 ∷ 3 ∷ 1 ∷ 3 ∷ 0 ∷ 1 ∷ 192 ∷ 27 ∷ 3 ∷ 2 ∷ 1 ∷ 0 ∷ 4 ∷ 101 ∷ 2 ∷ []) ++ replicate 8 9;
       table = 0 ∷ 2 ∷ 0 ∷ 1 ∷ 0 ∷ 4 ∷ replicate (mostPorts * 2 - 6) 0;
     })
-unfolding ones trailingZeros steps bigEndian numberFrom crcBit crcByte crcFrom intact formNumber configOf grantFrame hostNumber present counted choice join joinLive planner give planned fewest winner serve askers grants offers accepted answer round oneMore distributed advance within start serveMode matched behind wrongLimit dueNumber declined ended slotOnTables said hostsOf lowest grantFor granted refusal slotOnHosts stepped output stateOf stateBytes modeOf stateAfter tableAfter fits run slotWord slotState slotTable slotOutput
+unfolding ones trailingZeros steps bigEndian numberFrom crcBit crcByte crcFrom intact formNumber configOf heldFrame hostNumber present counted choice join joinLive planner give planned fewest winner serve askers grants offers accepted answer round oneMore distributed advance within start serveMode matched behind wrongLimit dueNumber declined ended slotOnTables said hostsOf grantFor granted refusal slotOnHosts stepped output stateOf stateBytes modeOf stateAfter tableAfter fits run slotWord slotState slotTable slotOutput
 worked = (refl, refl)

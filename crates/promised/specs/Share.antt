@@ -13,9 +13,9 @@ use Rattle.promised.specs.Call.{CCall, served}
 abbrev pub holds : List ℕ → ℕ → ℕ → Bool
 holds table i t = has (field 2 table i) t
 
--- the call is served, the pair (i, t) is in the table's bytes, and host i's grant frame in the output's bytes names t
+-- the call is served, the pair (i, t) is in the table's bytes, and host i's grant frame in the output's bytes has t in its set
 abbrev pub connects : ℕ → ℕ → List ℕ → CCall → Bool
-connects i t state d = served state d && (holds (d .left .table) i t && names (d .left .out) i t)
+connects i t state d = served state d && (holds (d .left .table) i t && names (stateOf state .ports) (d .left .out) i t)
 
 -- the pair waits in a call
 abbrev pub Waiting : ℕ → ℕ → List ℕ → CCall → Type 0

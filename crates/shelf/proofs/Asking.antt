@@ -8,8 +8,8 @@ use lib.Dec.{ltb}
 use lib.ListN.{length, replicate}
 use borrow.Author.Tests.{ltb-false, eq-eqb, ne-eqb}
 use Rattle.laws.proofs.Tests.{neither}
+use Rattle.frames.specs.Part.{frameLen}
 use Rattle.frames.specs.Frame.{differs}
-use Rattle.frames.specs.Config.{configLen}
 use Rattle.lcf.specs.Heard.{tables}
 use Rattle.lcf.specs.Slot.{within}
 use Rattle.shelf.specs.Hosts.{hostsOf}
@@ -23,7 +23,7 @@ not-one true c e = absurd (omega arith)
 
 pub block-ports : (m n : ℕ) (block : List ℕ) → blockNumber m n block ≡ 0 → n ≤ m
 unfolding blockNumber
-block-ports m n block e = ltb-false m n (neither (ltb n 1) (ltb m n) (not-one (ltb n 1 || ltb m n) (differs (length block) (n * configLen)) e) .1)
+block-ports m n block e = ltb-false m n (neither (ltb n 1) (ltb m n) (not-one (ltb n 1 || ltb m n) (differs (length block) (n * frameLen n)) e) .1)
 
 module _ (m n : ℕ) (block : List ℕ) (number : ℕ) where
   pub declined-sets : {r : List ℕ} → number ≡ blockNumber m n block → (number ≡ 0 → ⊥) → r ≡ replicate m 0 → record { number = number; sets = r } ≡ setsAsked m n block

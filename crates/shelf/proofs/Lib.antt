@@ -1,7 +1,6 @@
 pub mod Asking
 pub mod Granting
 pub mod Hearing
-pub mod Lowest
 pub mod Refusals
 pub mod Stepping
 pub mod Unawaited

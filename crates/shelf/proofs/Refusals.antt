@@ -7,9 +7,8 @@ use native.Mathlib.Omega.{arith}
 use lib.Dec.{ltb, eqb·suc-zero}
 use lib.ListN.{length}
 use borrow.Author.Tests.{ltb-false, eqb-true, not-false}
+use Rattle.frames.specs.Part.{frameLen, toldLen}
 use Rattle.frames.specs.Frame.{differs}
-use Rattle.frames.specs.Config.{configLen}
-use Rattle.frames.specs.Grant.{grantLen}
 use Rattle.lcf.specs.Slot.{dueNumber}
 use Rattle.lcf.proofs.Slots.{served}
 use Rattle.lcf.specs.declared.state.State.{State}
@@ -30,18 +29,18 @@ pub record Taken (m : ℕ) (st : State) (slot : ℕ) (mode : Mode) (block out : 
   pub due : dueNumber m st slot mode ≡ 0
   pub some-port : 1 ≤ st .ports
   pub ports : st .ports ≤ m
-  pub whole : length block ≡ st .ports * configLen
-  pub room : st .ports * grantLen ≤ length out
+  pub whole : length block ≡ st .ports * frameLen (st .ports)
+  pub room : st .ports * toldLen (st .ports) ≤ length out
 
 pub taken : (m : ℕ) (st : State) (slot : ℕ) (mode : Mode) (block out : List ℕ) → refusal m st slot mode block out ≡ 0 → Taken m st slot mode block out
 unfolding refusal
 taken m st slot mode block out e =
-    let (due, whole, room) = none-given (dueNumber m st slot mode) (differs (length block) (st .ports * configLen)) (ltb (length out) (st .ports * grantLen)) e in
+    let (due, whole, room) = none-given (dueNumber m st slot mode) (differs (length block) (st .ports * frameLen (st .ports))) (ltb (length out) (st .ports * toldLen (st .ports))) e in
     let ready = served m st slot mode due .ready in
     record {
       due = due;
       some-port = omega (arith, ready .initiator);
       ports = ready .ports;
       whole = eqb-true _ _ (not-false _ whole);
-      room = ltb-false (length out) (st .ports * grantLen) room;
+      room = ltb-false (length out) (st .ports * toldLen (st .ports)) room;
     }

@@ -34,7 +34,7 @@ module _ (m : ℕ) (st : State) (slot : ℕ) (mode : Mode) (block : List ℕ) (l
     unfolding begunOf
     who = ap (λ (b : Begun). b .heard) is-begun
 
-    pub served : (last : List ℕ) → r .answer .number ≡ 0 → last ≡ granted m (st .ports) (begun .heard) link (r .answer .sets) out
+    pub served : (last : List ℕ) → r .answer .number ≡ 0 → last ≡ granted (st .ports) (begun .heard) link (r .answer .sets) out
         → (r ≡ stepped m st slot mode block out) × (last ≡ output m st slot mode block link out)
     unfolding output
     served last done e = (ran, rw (← ran, eq-eqb _ 0 done, ← who) e)

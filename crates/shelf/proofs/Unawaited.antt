@@ -7,9 +7,8 @@ use native.Mathlib.Nat.{le-of-eq}
 use lib.Dec.{ltb, eqb·suc-zero}
 use lib.ListN.{length, length-replicate}
 use borrow.Author.Tests.{le-ltb}
+use Rattle.frames.specs.Part.{frameLen, toldLen}
 use Rattle.frames.specs.Frame.{differs}
-use Rattle.frames.specs.Config.{configLen}
-use Rattle.frames.specs.Grant.{grantLen}
 use Rattle.lcf.specs.Slot.{dueNumber}
 use Rattle.lcf.specs.declared.state.State.{State}
 use Rattle.lcf.specs.declared.state.Mode.{Mode}
@@ -23,19 +22,19 @@ last-apart zero false c = refl
 last-apart (suc d) b c = rw (eqb·suc-zero d, eqb·suc-zero d)
 
 module _ (m : ℕ) (st : State) (slot : ℕ) (mode : Mode) (block : List ℕ) where
-  with-room : (out : List ℕ) → st .ports * grantLen ≤ length out
-      → refusal m st slot mode block out ≡ cond (differs (dueNumber m st slot mode) 0) (dueNumber m st slot mode) (cond (differs (length block) (st .ports * configLen)) 6 0)
+  with-room : (out : List ℕ) → st .ports * toldLen (st .ports) ≤ length out
+      → refusal m st slot mode block out ≡ cond (differs (dueNumber m st slot mode) 0) (dueNumber m st slot mode) (cond (differs (length block) (st .ports * frameLen (st .ports))) 6 0)
   unfolding refusal
   with-room out room = rw (le-ltb _ _ room)
 
-  pub block-tests : blockRefusal m st slot mode block ≡ cond (differs (dueNumber m st slot mode) 0) (dueNumber m st slot mode) (cond (differs (length block) (st .ports * configLen)) 6 0)
-  block-tests = with-room (justRoom st) (le-of-eq (sym (length-replicate (st .ports * grantLen) 0)))
+  pub block-tests : blockRefusal m st slot mode block ≡ cond (differs (dueNumber m st slot mode) 0) (dueNumber m st slot mode) (cond (differs (length block) (st .ports * frameLen (st .ports))) 6 0)
+  block-tests = with-room (justRoom st) (le-of-eq (sym (length-replicate (st .ports * toldLen (st .ports)) 0)))
 
   pub block-first : (out : List ℕ)
-      → refusal m st slot mode block out ≡ cond (differs (blockRefusal m st slot mode block) 0) (blockRefusal m st slot mode block) (cond (ltb (length out) (st .ports * grantLen)) 7 0)
+      → refusal m st slot mode block out ≡ cond (differs (blockRefusal m st slot mode block) 0) (blockRefusal m st slot mode block) (cond (ltb (length out) (st .ports * toldLen (st .ports))) 7 0)
   unfolding refusal
-  block-first out = rw block-tests (last-apart (dueNumber m st slot mode) (differs (length block) (st .ports * configLen)) (ltb (length out) (st .ports * grantLen)))
+  block-first out = rw block-tests (last-apart (dueNumber m st slot mode) (differs (length block) (st .ports * frameLen (st .ports))) (ltb (length out) (st .ports * toldLen (st .ports))))
 
-  pub unanswered-stepped : (out : List ℕ) → st .ports * grantLen ≤ length out → stepped m st slot mode block out ≡ unanswered m st slot mode block
+  pub unanswered-stepped : (out : List ℕ) → st .ports * toldLen (st .ports) ≤ length out → stepped m st slot mode block out ≡ unanswered m st slot mode block
   unfolding stepped unanswered
   unanswered-stepped out room = rw (with-room out room ∙ sym block-tests)

@@ -4,8 +4,8 @@ use mathlib.Core.Bool.{_||_, cond}
 use mathlib.Core.List.{List}
 use lib.Dec.{eqb, ltb}
 use lib.ListN.{length, replicate}
+use Rattle.frames.specs.Part.{frameLen}
 use Rattle.frames.specs.Frame.{differs}
-use Rattle.frames.specs.Config.{configLen}
 use Rattle.lcf.specs.Heard.{counted}
 use Rattle.lcf.specs.Slot.{within}
 use Rattle.shelf.specs.Hosts.{hostsOf}
@@ -15,7 +15,7 @@ use Rattle.shelf.specs.declared.asked.Asked.{Asked}
 unfoldable pub blockNumber : ℕ → ℕ → List ℕ → ℕ
 blockNumber m n block =
     cond (ltb n 1 || ltb m n) 1
-    (cond (differs (length block) (n * configLen)) 6 0)
+    (cond (differs (length block) (n * frameLen n)) 6 0)
 
 -- the call: empty sets where it declines
 unfoldable pub setsAsked : ℕ → ℕ → List ℕ → Asked

@@ -1,24 +1,21 @@
 -- The grant frames that answer a slot.
 use Prim.Native.Nat.{ℕ, _*_}
-use mathlib.Core.Bool.{not, cond}
+use mathlib.Core.Bool.{not}
 use mathlib.Core.List.{List, _++_}
-use lib.Count.{trailingZeros}
 use lib.Dec.{eqb}
 use lib.ListN.{getD, drop}
 use Rattle.laws.specs.Parts.{parts}
 use Rattle.laws.specs.Sets.{has}
-use Rattle.frames.specs.Grant.{grantLen, grantFrame}
-use Rattle.frames.specs.declared.grant.Grant.{Grant}
+use Rattle.frames.specs.Width.{setBytes}
+use Rattle.frames.specs.Held.{heldFrame}
+use Rattle.frames.specs.Part.{toldLen}
+use Rattle.frames.specs.declared.held.Held.{Held}
 
--- the lowest target of a set of w bits; 0 if it is empty
-unfoldable pub lowest : ℕ → ℕ → ℕ
-lowest w s = cond (eqb s 0) 0 (trailingZeros w s)
-
--- what host i is told, sets of w bits being held
-unfoldable pub grantFor : ℕ → ℕ → ℕ → List ℕ → ℕ → Grant
-grantFor w heard link sets i =
-    record { nodeid = i; gnt = lowest w (getD sets i 0); gntval = not (eqb (getD sets i 0) 0); linkerr = has link i; crcerr = not (has heard i) }
+-- what host i is told: all the targets that it holds
+unfoldable pub grantFor : ℕ → ℕ → List ℕ → ℕ → Held
+grantFor heard link sets i =
+    record { nodeid = i; gntval = not (eqb (getD sets i 0) 0); linkerr = has link i; crcerr = not (has heard i); set = getD sets i 0 }
 
 -- n grant frames, one after the other, and the rest of the output as it was
-unfoldable pub granted : ℕ → ℕ → ℕ → ℕ → List ℕ → List ℕ → List ℕ
-granted w n heard link sets out = parts (λ i. grantFrame (grantFor w heard link sets i)) n ++ drop (n * grantLen) out
+unfoldable pub granted : ℕ → ℕ → ℕ → List ℕ → List ℕ → List ℕ
+granted n heard link sets out = parts (λ i. heldFrame (setBytes n) (grantFor heard link sets i)) n ++ drop (n * toldLen n) out

@@ -5,14 +5,14 @@ use mathlib.Core.List.{List}
 use lib.Dec.{eqb}
 use Rattle.laws.specs.Sets.{gathered, tabled}
 use Rattle.frames.specs.Frame.{Answer}
-use Rattle.frames.specs.Config.{configLen, readConfig}
-use Rattle.frames.specs.Part.{hostPart}
+use Rattle.frames.specs.Config.{readConfig}
+use Rattle.frames.specs.Part.{frameLen, hostPart}
 use Rattle.frames.specs.declared.config.Config.{Config}
 use Rattle.shelf.specs.declared.hosts.Hosts.{Hosts}
 
 -- what host h says: its fields, and zeros if its frame is not correct
 unfoldable pub said : ℕ → ℕ → List ℕ → ℕ → Answer Config
-said m n block h = readConfig (hostPart m configLen n h block)
+said m n block h = readConfig (hostPart m (frameLen n) n h block)
 
 -- host h is heard; and one of its fields
 abbrev pub isHeard : ℕ → ℕ → List ℕ → ℕ → Bool

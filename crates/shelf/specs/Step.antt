@@ -4,9 +4,8 @@ use mathlib.Core.Bool.{cond}
 use mathlib.Core.List.{List}
 use lib.Dec.{eqb, ltb}
 use lib.ListN.{length}
+use Rattle.frames.specs.Part.{frameLen, toldLen}
 use Rattle.frames.specs.Frame.{differs}
-use Rattle.frames.specs.Config.{configLen}
-use Rattle.frames.specs.Grant.{grantLen}
 use Rattle.lcf.specs.Heard.{counted}
 use Rattle.lcf.specs.Slot.{dueNumber, declined, slotOnTables}
 use Rattle.lcf.specs.declared.state.State.{State}
@@ -20,8 +19,8 @@ use Rattle.shelf.specs.declared.hosts.Hosts.{Hosts}
 unfoldable pub refusal : ℕ → State → ℕ → Mode → List ℕ → List ℕ → ℕ
 refusal m st slot mode block out =
     cond (differs (dueNumber m st slot mode) 0) (dueNumber m st slot mode)
-    (cond (differs (length block) (st .ports * configLen)) 6
-    (cond (ltb (length out) (st .ports * grantLen)) 7 0))
+    (cond (differs (length block) (st .ports * frameLen (st .ports))) 6
+    (cond (ltb (length out) (st .ports * toldLen (st .ports))) 7 0))
 
 -- rules 1 and 2, then the slot on what counts of req and pre
 unfoldable pub slotOnHosts : ℕ → State → ℕ → Mode → Hosts → Stepped
@@ -39,4 +38,4 @@ stepped m st slot mode block out =
 unfoldable pub output : ℕ → State → ℕ → Mode → List ℕ → ℕ → List ℕ → List ℕ
 output m st slot mode block link out =
     let answer = stepped m st slot mode block out .answer in
-    cond (eqb (answer .number) 0) (granted m (st .ports) (hostsOf m (st .ports) block .heard) link (answer .sets) out) out
+    cond (eqb (answer .number) 0) (granted (st .ports) (hostsOf m (st .ports) block .heard) link (answer .sets) out) out

@@ -2,14 +2,14 @@
 use Prim.Native.Nat.{ℕ, _*_}
 use mathlib.Core.List.{List}
 use lib.ListN.{replicate}
-use Rattle.frames.specs.Grant.{grantLen}
+use Rattle.frames.specs.Part.{toldLen}
 use Rattle.lcf.specs.declared.state.State.{State}
 use Rattle.lcf.specs.declared.state.Mode.{Mode}
 use Rattle.lcf.specs.declared.work.Stepped.{Stepped}
 use Rattle.shelf.specs.Step.{refusal, stepped}
 
 abbrev pub justRoom : State → List ℕ
-justRoom st = replicate (st .ports * grantLen) 0
+justRoom st = replicate (st .ports * toldLen (st .ports)) 0
 
 -- the numbers 1 to 6, in their order; 0 if none applies
 abbrev pub blockRefusal : ℕ → State → ℕ → Mode → List ℕ → ℕ

@@ -9,7 +9,7 @@ ghost use Rattle.shelf.specs.Unanswered.{blockRefusal, unanswered};
 use crate::grants::write_grants;
 use crate::hosts::listen;
 use frames::Config;
-use frames::Grant;
+use frames::Held;
 use lcf::Mode;
 use lcf::Set;
 use lcf::State;
@@ -36,7 +36,7 @@ fn refusal(state: State, slot: u32, mode: Mode, block: &[u8], out: &[u8]) -> u8
     if number != 0 {
         return number;
     }
-    if out.len() < state.ports * Grant::LEN {
+    if out.len() < state.ports * Held::LEN {
         return 7;
     }
     0

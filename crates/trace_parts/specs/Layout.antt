@@ -2,13 +2,9 @@
 use Prim.Native.Nat.{ℕ, _+_, _*_}
 use mathlib.Core.Bool.{cond}
 use Rattle.laws.specs.Tests.{between}
-use Rattle.frames.specs.Config.{configLen}
-use Rattle.frames.specs.Part.{mostPorts}
+use Rattle.frames.specs.Part.{mostPorts, frameLen}
 
--- the bytes of a configuration frame, and of a slot block
-unfoldable pub frameLen : ℕ → ℕ
-frameLen n = configLen
-
+-- the bytes of a slot block
 unfoldable pub blockLen : ℕ → ℕ
 blockLen n = n * frameLen n
 

@@ -10,7 +10,7 @@ use lib.ListN.{getD}
 use Rattle.laws.specs.Steps.{steps}
 use Rattle.laws.specs.Tests.{between}
 use Rattle.frames.specs.Part.{mostPorts}
-use Rattle.trace_parts.specs.Layout.{frameLen, blockLen, bodyLen, mostSlots, bodySize}
+use Rattle.trace_parts.specs.Layout.{blockLen, bodyLen, mostSlots, bodySize}
 use Rattle.trace_writer.specs.Writer.{startOf}
 
 module _ (n : ℕ) (slots : List ℕ) where
@@ -27,7 +27,7 @@ module _ (n : ℕ) (slots : List ℕ) where
 
 -- a body fits 64 KiB
 pub body-small : (n slots : ℕ) → n ≤ mostPorts → slots ≤ mostSlots n → bodyLen n slots ≤ 65536
-unfolding bodyLen blockLen frameLen mostSlots
+unfolding bodyLen blockLen mostSlots
 body-small n slots h l = omega (arith, mul-le-mul-right (blockLen n) l)
 
 pub start-small : (n : ℕ) (slots : List ℕ) (k : ℕ) → n ≤ mostPorts → ((j : ℕ) → j < k → getD slots j 0 ≤ mostSlots n) → startOf n slots k ≤ k * 65536

@@ -8,7 +8,7 @@ use Rattle.laws.specs.Bytes.{numberFrom}
 use Rattle.laws.specs.Steps.{steps, every}
 use Rattle.words.specs.Check.{crcBit, crcByte, crcFrom, intact}
 use Rattle.frames.specs.Part.{mostPorts}
-use Rattle.trace_parts.specs.Layout.{frameLen, blockLen, bodyLen, mostMode, mostSlots}
+use Rattle.trace_parts.specs.Layout.{blockLen, bodyLen, mostMode, mostSlots}
 use Rattle.trace_parts.specs.Contents.{portsOf, countOf, entryOf, due, entrySound, contentsSound, contentsFit, entryIf}
 use Rattle.trace_parts.specs.Body.{fieldsOf, formed, complete, bodySound, hasBlock, blockPart}
 use Rattle.traces.specs.Trace.{bodyAt, soundAt, traceSound, traceHead}
@@ -27,16 +27,16 @@ abbrev body : List ℕ
 body = (3 ∷ 1 ∷ 0 ∷ []) ++ replicate 22 7 ++ replicate 22 9 ++ (85 ∷ 121 ∷ [])
 
 one-body : traceHead mostPorts (contents ++ body) ≡ record { number = 0; ports = 2; count = 1 }
-unfolding crcFrom crcByte crcBit steps numberFrom intact portsOf countOf entryOf due every entrySound contentsSound contentsFit frameLen blockLen bodyLen mostMode mostSlots fieldsOf formed complete bodySound bodyAt soundAt traceSound
+unfolding crcFrom crcByte crcBit steps numberFrom intact portsOf countOf entryOf due every entrySound contentsSound contentsFit blockLen bodyLen mostMode mostSlots fieldsOf formed complete bodySound bodyAt soundAt traceSound
 one-body = refl
 
 -- the entry, and the body that it names
 entry-shown : entryIf true (contents ++ body) 0 ≡ record { number = 0; entry = record { first = 0x01020304; slots = 2; offset = 15 }; len = 49 }
-unfolding numberFrom portsOf entryOf frameLen blockLen bodyLen
+unfolding numberFrom portsOf entryOf blockLen bodyLen
 entry-shown = refl
 
 body-shown : bodyAt (contents ++ body) 0 ≡ body
-unfolding numberFrom portsOf entryOf frameLen blockLen bodyLen bodyAt
+unfolding numberFrom portsOf entryOf blockLen bodyLen bodyAt
 body-shown = refl
 
 -- its fields, and the block of its second slot
@@ -45,12 +45,12 @@ unfolding numberFrom fieldsOf
 fields-shown = refl
 
 block-shown : blockPart mostPorts 2 2 1 body ≡ replicate 22 9
-unfolding frameLen blockLen bodyLen mostSlots complete hasBlock
+unfolding blockLen bodyLen mostSlots complete hasBlock
 block-shown = refl
 
 -- the same with a byte behind it is no trace, nor is it with an offset off by one under a right check
 longer : traceSound mostPorts (contents ++ body ++ (0 ∷ [])) ≡ false
-unfolding crcFrom crcByte crcBit steps numberFrom intact portsOf countOf entryOf due every entrySound contentsSound contentsFit frameLen blockLen bodyLen mostSlots traceSound
+unfolding crcFrom crcByte crcBit steps numberFrom intact portsOf countOf entryOf due every entrySound contentsSound contentsFit blockLen bodyLen mostSlots traceSound
 longer = refl
 
 abbrev shifted : List ℕ

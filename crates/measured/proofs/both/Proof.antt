@@ -13,6 +13,6 @@ both-spec =
     (tie.spec (λ c κs. search needs)
     (λ c.
     let part = c .before .before .before .args .part .now in
-    let room : 3 ≤ length part = omega arith in
-    sym (length-take-le 3 part room))
+    let room : 5 ≤ length part = omega arith in
+    sym (length-take-le 5 part room))
     (λ c κs. search needs) (λ c. cc))
