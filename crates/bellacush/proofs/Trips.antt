@@ -7,8 +7,8 @@ use native.Mathlib.Omega.{arith}
 use lib.ListN.{drop}
 use Rattle.laws.specs.Bytes.{Bytes, bigEndian}
 use Rattle.laws.proofs.Bytes.{number-big, number-small, bytes-drop}
-use Rattle.lcf.specs.declared.state.State.{State}
-use Rattle.lcf.specs.declared.work.Answer.{Answer}
+use Rattle.ports.specs.declared.state.State.{State}
+use Rattle.ports.specs.declared.answer.Answer.{Answer}
 use Rattle.bellacush.specs.State.{Fits}
 use Rattle.bellacush.specs.Slot.{stateOf, stateBytes, wordOf}
 

@@ -5,10 +5,10 @@ use mathlib.Core.List.{List, _++_}
 use lib.Dec.{eqb}
 use lib.ListN.{length, getD, take, drop}
 use Rattle.laws.specs.Bytes.{bigEndian, number, row}
-use Rattle.lcf.specs.Modes.{modeOf}
-use Rattle.lcf.specs.declared.state.State.{State}
-use Rattle.lcf.specs.declared.work.Answer.{Answer}
-use Rattle.lcf.specs.declared.work.Stepped.{Stepped}
+use Rattle.ports.specs.Modes.{modeOf}
+use Rattle.ports.specs.declared.state.State.{State}
+use Rattle.ports.specs.declared.answer.Answer.{Answer}
+use Rattle.ports.specs.declared.answer.Stepped.{Stepped}
 use Rattle.table_bytes.specs.Table.{tableLen}
 use Rattle.shelf.specs.Step.{stepped, output}
 

@@ -1,6 +1,6 @@
 -- The states that seven bytes hold.
 use Prim.Native.Nat.{_^_, _<_}
-use Rattle.lcf.specs.declared.state.State.{State}
+use Rattle.ports.specs.declared.state.State.{State}
 
 -- n, I and J are bytes, and the slot due is four
 pub record Fits (st : State) : Type 0 where

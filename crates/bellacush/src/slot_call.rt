@@ -7,9 +7,9 @@ ghost use Rattle.bellacush.specs.Slot.{stateLen, wordOf, stateAfter, tab
 use crate::state_bytes::STATE_LEN;
 use crate::state_bytes::state_bytes;
 use crate::state_bytes::state_of;
-use lcf::Answer;
-use lcf::Set;
-use lcf::Stepped;
+use ports::Answer;
+use ports::Set;
+use ports::Stepped;
 use table_bytes::TABLE_LEN;
 use table_bytes::put_table;
 
@@ -53,7 +53,14 @@ pub extern "C" fn bellacush_slot(
     if table.len() != TABLE_LEN {
         return 8;
     }
-    let stepped = shelf::step(state_of(state), slot, lcf::mode_of(mode), block, link, out);
+    let stepped = shelf::step(
+        state_of(state),
+        slot,
+        ports::mode_of(mode),
+        block,
+        link,
+        out,
+    );
     store(stepped, state, table);
     let answer = stepped.answer;
     word_of(answer)

@@ -3,9 +3,9 @@ ghost use mathlib.Core.Path.{_≡_};
 ghost use Prim.Native.Nat.{_%_};
 ghost use lib.ListN.{length};
 ghost use Rattle.bellacush.specs.Slot.{stateOf, stateBytes, stateLen};
-use lcf::Initiator;
-use lcf::State;
-use lcf::Target;
+use ports::Initiator;
+use ports::State;
+use ports::Target;
 
 pub(crate) const STATE_LEN: usize = 7;
 

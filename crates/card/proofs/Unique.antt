@@ -3,9 +3,9 @@ use mathlib.Core.Path.{_≡_}
 use mathlib.Core.List.{List}
 use Prim.Native.Nat.{ℕ}
 use Rattle.laws.proofs.Unique.{the-result}
-use Rattle.lcf.specs.declared.state.State.{State}
-use Rattle.lcf.specs.declared.state.Mode.{Mode}
-use Rattle.lcf.specs.declared.work.Answer.{Answer}
+use Rattle.ports.specs.declared.state.State.{State}
+use Rattle.ports.specs.declared.state.Mode.{Mode}
+use Rattle.ports.specs.declared.answer.Answer.{Answer}
 use Rattle.card.specs.Slot.{Lent}
 
 pub slot-once : {m : ℕ} {st : State} {slot : ℕ} {mode : Mode} {block : List ℕ} {link : ℕ} {out : List ℕ} {a b : Answer} {x y : State} {o p : List ℕ}

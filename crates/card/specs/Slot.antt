@@ -2,9 +2,9 @@
 use mathlib.Core.Path.{_≡_}
 use mathlib.Core.List.{List}
 use Prim.Native.Nat.{ℕ}
-use Rattle.lcf.specs.declared.state.State.{State}
-use Rattle.lcf.specs.declared.state.Mode.{Mode}
-use Rattle.lcf.specs.declared.work.Answer.{Answer}
+use Rattle.ports.specs.declared.state.State.{State}
+use Rattle.ports.specs.declared.state.Mode.{Mode}
+use Rattle.ports.specs.declared.answer.Answer.{Answer}
 use Rattle.shelf.specs.Step.{stepped, output}
 
 pub record Lent (m : ℕ) (st : State) (slot : ℕ) (mode : Mode) (block : List ℕ) (link : ℕ) (out : List ℕ) (answer : Answer) (next : State) (after : List ℕ) : Type 0 where

@@ -1,10 +1,10 @@
 // The card's slot loop keeps one state and lends it for each slot call.
 ghost use Rattle.frames.specs.Part.{mostPorts};
 ghost use Rattle.card.specs.Slot.{Lent};
-use lcf::Answer;
-use lcf::Mode;
-use lcf::Set;
-use lcf::State;
+use ports::Answer;
+use ports::Mode;
+use ports::Set;
+use ports::State;
 
 pub fn slot(
     state: &mut State,

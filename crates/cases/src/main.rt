@@ -1,6 +1,6 @@
 // Cases A to I of document 01.
-use lcf::Mode;
-use lcf::State;
+use ports::Mode;
+use ports::State;
 use shown::SLOT;
 use shown::at;
 use shown::rows;
@@ -16,7 +16,7 @@ fn show(label: u8, state: State, mode: Mode, req: u16, pre: u16) {
 
 // Case G, whose host 1 clears ben bit 0.
 fn show_voted(label: u8, state: State, req: u16, ben: u16) {
-    let counted = lcf::counted(
+    let counted = hearing::counted(
         state.ports,
         0b11,
         rows(ben),

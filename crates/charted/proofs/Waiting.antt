@@ -9,7 +9,7 @@ use lib.ListN.{length}
 use borrow.Author.Tests.{lt-ltb, eqb-true}
 use Rattle.laws.specs.Sets.{asks}
 use Rattle.laws.proofs.Tests.{every}
-use Rattle.lcf.specs.declared.state.State.{State}
+use Rattle.ports.specs.declared.state.State.{State}
 use Rattle.ledger.specs.Counts.{mostSlots}
 use Rattle.ledger.specs.History.{Feed, asked, connected, waited, isAsked, isConnected, isWithdrawn, howOften, isOpen}
 use Rattle.ledger.specs.Shows.{told, Shows}

@@ -3,7 +3,7 @@ use mathlib.Core.Path.{_≡_}
 use mathlib.Core.Bool.{Bool, false, cond}
 use Prim.Native.Nat.{ℕ, _+_}
 use Rattle.laws.specs.Sets.{asks}
-use Rattle.lcf.specs.declared.state.State.{State}
+use Rattle.ports.specs.declared.state.State.{State}
 use Rattle.shelf.specs.Asked.{setsAsked}
 use Rattle.ledger.specs.Ledger.{empty, figuresOf}
 use Rattle.ledger.specs.History.{Feed}

@@ -6,7 +6,7 @@ use lib.ListN.{replicate}
 use Rattle.laws.specs.Steps.{steps}
 use Rattle.laws.specs.Bytes.{numberFrom}
 use Rattle.lent.specs.Filled.{fittedNumber, filledAfter}
-use Rattle.lcf.specs.Slot.{within}
+use Rattle.ports.specs.Tables.{within}
 use Rattle.ledger.specs.Counts.{raised}
 use Rattle.ledger.specs.Events.{meet, less, happened}
 use Rattle.ledger.specs.Ledger.{figuresOf, shown, high, over, refusal, number, next}

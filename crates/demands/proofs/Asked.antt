@@ -12,7 +12,7 @@ use Rattle.laws.specs.Sets.{asks}
 use Rattle.laws.proofs.Tests.{both, every, neither, arms}
 use Rattle.frames.specs.Part.{frameLen}
 use Rattle.frames.specs.Frame.{differs}
-use Rattle.lcf.proofs.Ports.{asks-within}
+use Rattle.ports.proofs.Seen.{asks-within}
 use Rattle.shelf.specs.Asked.{blockNumber, setsAsked}
 use Rattle.shelf.specs.declared.asked.Asked.{Asked}
 use Rattle.demands.specs.Block.{Asks}

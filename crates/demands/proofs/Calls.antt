@@ -9,11 +9,12 @@ use lib.Dec.{eqb, ltb, leb}
 use lib.ListN.{replicate}
 use borrow.Author.Tests.{eqb-true, eqb-false, ltb-true, ltb-false, leb-true, leb-false, le-ltb, lt-leb}
 use Rattle.laws.proofs.Tests.{arms}
+use Rattle.ports.specs.Due.{behind, wrongLimit, dueNumber, declined}
+use Rattle.ports.specs.declared.state.State.{State}
+use Rattle.ports.specs.declared.answer.Stepped.{Stepped}
 use Rattle.lcf.specs.Advance.{advance}
-use Rattle.lcf.specs.Slot.{matched, behind, wrongLimit, dueNumber, declined, ended, slotOnTables}
-use Rattle.lcf.specs.declared.state.State.{State}
+use Rattle.lcf.specs.Slot.{matched, ended, slotOnTables}
 use Rattle.lcf.specs.declared.work.Run.{Run}
-use Rattle.lcf.specs.declared.work.Stepped.{Stepped}
 use Rattle.demands.specs.Call.{Call, called, number, sets}
 use Rattle.demands.specs.Refusal.{InOrder}
 

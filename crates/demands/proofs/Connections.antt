@@ -6,7 +6,7 @@ use Prim.Native.Nat.{ℕ, _<_}
 use lib.ListN.{length}
 use Rattle.laws.specs.Sets.{asks}
 use Rattle.laws.proofs.Members.{asks-empty}
-use Rattle.lcf.specs.declared.state.State.{State}
+use Rattle.ports.specs.declared.state.State.{State}
 use Rattle.demands.specs.Call.{Call, number, sets}
 use Rattle.demands.specs.Origin.{Given, Live, Alone}
 use Rattle.demands.proofs.Calls.{of-sets, served-call}

@@ -4,9 +4,9 @@ use mathlib.Core.Bool.{Bool, true, false, cond}
 use mathlib.Core.List.{List, [], _∷_}
 use Prim.Native.Nat.{ℕ, _+_, _%_, _^_, _≤_, _<_}
 use native.Mathlib.Omega.{arith}
+use Rattle.ports.specs.Due.{behind}
+use Rattle.ports.specs.declared.state.State.{State}
 use Rattle.lcf.specs.Advance.{advance}
-use Rattle.lcf.specs.Slot.{behind}
-use Rattle.lcf.specs.declared.state.State.{State}
 use Rattle.demands.specs.History.{after, howMany, InEach, Moves}
 use Rattle.demands.specs.Refusal.{InOrder, Valid}
 use Rattle.demands.proofs.Refusal.{advance-valid}

@@ -12,7 +12,7 @@ use Rattle.laws.proofs.Tests.{both, same}
 use Rattle.laws.proofs.Tallies.{tally-few}
 use Rattle.laws.proofs.Members.{has-none, asks-row, tabled-asks}
 use Rattle.laws.proofs.Rows.{row-tabled}
-use Rattle.lcf.specs.Heard.{clears, present, counted}
+use Rattle.hearing.specs.Heard.{clears, present, counted}
 
 module _ (n heard : ℕ) (ben : List ℕ) where
   -- Rule 2: an initiator is present if it is heard, and any two heard hosts that clear its bit are one.

@@ -12,15 +12,15 @@ use Rattle.laws.specs.Sets.{has, asks}
 use Rattle.laws.proofs.Tests.{both, arms}
 use Rattle.laws.proofs.Steps.{kept, kept-from-first}
 use Rattle.laws.proofs.Members.{gathered-has}
+use Rattle.ports.specs.declared.state.State.{State}
+use Rattle.ports.specs.declared.state.Mode.{Mode}
+use Rattle.ports.specs.declared.state.Mode.the-variants.{Central, Distributed}
 use Rattle.lcf.specs.Choice.{place}
 use Rattle.lcf.specs.Join.{join, joinLive}
 use Rattle.lcf.specs.Planned.{planner, give, planned}
 use Rattle.lcf.specs.Central.{winner, serve}
 use Rattle.lcf.specs.Distributed.{grants, offers, accepted, answer, round, anyLive, oneMore, rounds, distributed}
 use Rattle.lcf.specs.Slot.{serveMode}
-use Rattle.lcf.specs.declared.state.State.{State}
-use Rattle.lcf.specs.declared.state.Mode.{Mode}
-use Rattle.lcf.specs.declared.state.Mode.the-variants.{Central, Distributed}
 use Rattle.lcf.specs.declared.work.Work.{Work}
 use Rattle.lcf.specs.declared.work.Round.{Round}
 use Rattle.lcf.specs.declared.work.Run.{Run}

@@ -6,10 +6,11 @@ use mathlib.Core.List.{List}
 use Prim.Native.Nat.{ℕ, _<_}
 use lib.ListN.{length}
 use Rattle.laws.specs.Sets.{asks}
+use Rattle.ports.specs.declared.state.State.{State}
+use Rattle.ports.specs.declared.state.Mode.{Mode}
 use Rattle.lcf.specs.Join.{join}
-use Rattle.lcf.specs.Slot.{start, matched}
-use Rattle.lcf.specs.declared.state.State.{State}
-use Rattle.lcf.specs.declared.state.Mode.{Mode}
+use Rattle.lcf.specs.Planned.{start}
+use Rattle.lcf.specs.Slot.{matched}
 use Rattle.lcf.specs.declared.work.Work.{Work}
 use Rattle.demands.specs.Origin.{Given, Live, Alone}
 use Rattle.demands.proofs.Choice.{chosen-once}

@@ -6,8 +6,8 @@ use Prim.Native.Nat.{ℕ, _^_, _≤_, _<_}
 use lib.ListN.{replicate}
 use borrow.Author.Tests.{eq-eqb, eqb-true, eqb-false}
 use Rattle.frames.specs.Part.{mostPorts}
-use Rattle.lcf.specs.declared.state.State.{State}
-use Rattle.lcf.specs.declared.work.Answer.{Answer}
+use Rattle.ports.specs.declared.state.State.{State}
+use Rattle.ports.specs.declared.answer.Answer.{Answer}
 use Rattle.demands.specs.History.{Below, after, howMany, InEach, InServed, quota, Moves, Fair}
 use Rattle.demands.specs.Refusal.{Valid}
 use Rattle.demands.specs.SlotCall as slots

@@ -12,11 +12,12 @@ use Rattle.laws.proofs.Loops.{same-steps}
 use Rattle.laws.proofs.Tests.{refuted}
 use Rattle.frames.specs.Frame.{Answer as Read}
 use Rattle.frames.specs.declared.config.Config.{Config}
-use Rattle.lcf.specs.Heard.{present, counted}
-use Rattle.lcf.specs.Slot.{declined, slotOnTables}
-use Rattle.lcf.specs.declared.state.State.{State}
-use Rattle.lcf.specs.declared.state.Mode.{Mode}
-use Rattle.lcf.specs.declared.work.Answer.{Answer}
+use Rattle.ports.specs.Due.{declined}
+use Rattle.ports.specs.declared.state.State.{State}
+use Rattle.ports.specs.declared.state.Mode.{Mode}
+use Rattle.ports.specs.declared.answer.Answer.{Answer}
+use Rattle.hearing.specs.Heard.{present, counted}
+use Rattle.lcf.specs.Slot.{slotOnTables}
 use Rattle.shelf.specs.Hosts.{fieldOf, hostsOf}
 use Rattle.shelf.specs.Grants.{granted}
 use Rattle.shelf.specs.Step.{refusal, slotOnHosts, stepped, output}

@@ -16,12 +16,13 @@ use Rattle.laws.proofs.Rows.{length-tabled}
 use Rattle.laws.proofs.Members.{has-none}
 use Rattle.laws.proofs.Steps.{upto, kept}
 use Rattle.laws.proofs.Words.{first-digit}
+use Rattle.ports.specs.Tables.{within}
+use Rattle.ports.specs.declared.state.State.{State}
+use Rattle.ports.specs.declared.state.Mode.{Mode}
+use Rattle.ports.specs.declared.state.Mode.the-variants.{Central, Distributed}
 use Rattle.lcf.specs.Join.{join}
 use Rattle.lcf.specs.Distributed.{askers, grants, offers, accepted, answer, round, anyLive, oneMore, distributed}
-use Rattle.lcf.specs.Slot.{within, start, serveMode, matched}
-use Rattle.lcf.specs.declared.state.State.{State}
-use Rattle.lcf.specs.declared.state.Mode.{Mode}
-use Rattle.lcf.specs.declared.state.Mode.the-variants.{Central, Distributed}
+use Rattle.lcf.specs.Slot.{start, serveMode, matched}
 use Rattle.lcf.specs.declared.work.Work.{Work}
 use Rattle.lcf.specs.declared.work.Round.{Round}
 use Rattle.lcf.specs.declared.work.Run.{Run}

@@ -11,8 +11,8 @@ use Rattle.frames.specs.Frame.{Answer}
 use Rattle.frames.specs.Config.{readConfig}
 use Rattle.frames.specs.Part.{frameLen, hostNumber}
 use Rattle.frames.specs.declared.config.Config.{Config}
-use Rattle.lcf.specs.declared.state.State.{State}
-use Rattle.lcf.specs.declared.state.Mode.{Mode}
+use Rattle.ports.specs.declared.state.State.{State}
+use Rattle.ports.specs.declared.state.Mode.{Mode}
 use Rattle.shelf.specs.Hosts.{said, isHeard, fieldOf, hostsOf}
 use Rattle.shelf.specs.Step.{refusal, stepped, output}
 use Rattle.demands.specs.Block.{framePart, says, QenAlone}

@@ -7,9 +7,9 @@ use native.Mathlib.Decide.{decLe}
 use native.Mathlib.Omega.{arith}
 use lib.Dec.{lit<}
 use borrow.Author.Tests.{lt-ltb, le-leb, lt-leb}
+use Rattle.ports.specs.Due.{behind, declined}
+use Rattle.ports.specs.declared.state.State.{State}
 use Rattle.lcf.specs.Advance.{advance}
-use Rattle.lcf.specs.Slot.{behind, declined}
-use Rattle.lcf.specs.declared.state.State.{State}
 use Rattle.demands.specs.Call.{Call, called, number}
 use Rattle.demands.specs.Refusal.{InOrder, Valid, Nothing}
 use Rattle.demands.proofs.Calls.{means, ordered, call-cases, due-exactly, served-call}

@@ -4,7 +4,7 @@ use mathlib.Core.Bool.{Bool, true}
 use mathlib.Core.List.{List}
 use Prim.Native.Nat.{ℕ, _^_, _<_}
 use borrow.Author.Tests.{eq-eqb}
-use Rattle.lcf.specs.declared.state.State.{State}
+use Rattle.ports.specs.declared.state.State.{State}
 use Rattle.demands.specs.History.{after, howMany, InEach, Moves}
 use Rattle.demands.specs.SlotCall.{SlotCall, next, number, served, onTables}
 use Rattle.demands.proofs.Calls.{served-call}

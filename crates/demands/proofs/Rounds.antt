@@ -10,15 +10,16 @@ use native.Mathlib.Omega.{arith}
 use lib.ListN.{length}
 use Rattle.laws.specs.Steps.{steps}
 use Rattle.laws.proofs.Steps.{upto}
+use Rattle.ports.specs.declared.state.State.{State}
+use Rattle.ports.specs.declared.state.Mode.{Mode}
+use Rattle.ports.specs.declared.state.Mode.the-variants.{Central, Distributed}
+use Rattle.ports.specs.declared.answer.Stepped.{Stepped}
 use Rattle.lcf.specs.Join.{joinLive}
 use Rattle.lcf.specs.Distributed.{anyLive, round, oneMore, distributed}
-use Rattle.lcf.specs.Slot.{start, serveMode, matched}
-use Rattle.lcf.specs.declared.state.State.{State}
-use Rattle.lcf.specs.declared.state.Mode.{Mode}
-use Rattle.lcf.specs.declared.state.Mode.the-variants.{Central, Distributed}
+use Rattle.lcf.specs.Planned.{start}
+use Rattle.lcf.specs.Slot.{serveMode, matched}
 use Rattle.lcf.specs.declared.work.Work.{Work}
 use Rattle.lcf.specs.declared.work.Run.{Run}
-use Rattle.lcf.specs.declared.work.Stepped.{Stepped}
 use Rattle.demands.specs.Call as tables
 use Rattle.demands.specs.SlotCall.{SlotCall, called, number, onTables}
 use Rattle.demands.specs.Rounds.{SomeLive, afterRounds, RoundsRun, RoundsOf, HasRounds}

@@ -8,9 +8,10 @@ use lib.ListN.{length}
 use borrow.Author.Tests.{eqb-true, eqb-false}
 use Rattle.laws.specs.Sets.{asks}
 use Rattle.laws.proofs.Members.{asks-row}
-use Rattle.lcf.specs.Slot.{start, matched}
-use Rattle.lcf.specs.declared.state.State.{State}
-use Rattle.lcf.specs.declared.state.Mode.{Mode}
+use Rattle.ports.specs.declared.state.State.{State}
+use Rattle.ports.specs.declared.state.Mode.{Mode}
+use Rattle.lcf.specs.Planned.{start}
+use Rattle.lcf.specs.Slot.{matched}
 use Rattle.lcf.specs.declared.work.Work.{Work}
 use Rattle.demands.specs.Origin.{Live, Alone}
 use Rattle.demands.specs.Call.{Call, next, sets, served}

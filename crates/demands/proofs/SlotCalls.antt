@@ -12,14 +12,15 @@ use Rattle.laws.proofs.Tests.{both, every, either, arms}
 use Rattle.laws.proofs.Rows.{length-tabled}
 use Rattle.frames.specs.Part.{frameLen, toldLen}
 use Rattle.frames.specs.Frame.{differs}
+use Rattle.ports.specs.Due.{behind, wrongLimit, dueNumber, declined}
+use Rattle.ports.specs.declared.state.State.{State}
+use Rattle.ports.specs.declared.state.Mode.{Mode}
+use Rattle.ports.specs.declared.state.Mode.the-variants.{Central, Distributed}
+use Rattle.ports.specs.declared.answer.Stepped.{Stepped}
+use Rattle.hearing.specs.Heard.{counted}
 use Rattle.lcf.specs.Advance.{advance}
-use Rattle.lcf.specs.Heard.{counted}
-use Rattle.lcf.specs.Slot.{matched, behind, wrongLimit, dueNumber, declined, ended, slotOnTables}
-use Rattle.lcf.specs.declared.state.State.{State}
-use Rattle.lcf.specs.declared.state.Mode.{Mode}
-use Rattle.lcf.specs.declared.state.Mode.the-variants.{Central, Distributed}
+use Rattle.lcf.specs.Slot.{matched, ended, slotOnTables}
 use Rattle.lcf.specs.declared.work.Run.{Run}
-use Rattle.lcf.specs.declared.work.Stepped.{Stepped}
 use Rattle.shelf.specs.Hosts.{hostsOf}
 use Rattle.shelf.specs.Step.{refusal, slotOnHosts, stepped}
 use Rattle.demands.specs.Call as tables

@@ -9,8 +9,8 @@ use lib.ListN.{length}
 use Rattle.laws.specs.Sets.{asks}
 use Rattle.laws.proofs.Tests.{refuted}
 use Rattle.laws.proofs.Members.{asks-empty}
-use Rattle.lcf.specs.Slot.{declined}
-use Rattle.lcf.specs.declared.state.State.{State}
+use Rattle.ports.specs.Due.{declined}
+use Rattle.ports.specs.declared.state.State.{State}
 use Rattle.demands.specs.Call as tables
 use Rattle.demands.specs.Origin.{Alone}
 use Rattle.demands.specs.SlotCall.{SlotCall, number, sets, onTables}

@@ -20,7 +20,7 @@ use Rattle.frames.specs.Width.{setBytes, setBits}
 use Rattle.frames.specs.Held.{heldInForm, heldFrame, readHeld}
 use Rattle.frames.specs.declared.held.Held.{Held}
 use Rattle.frames.proofs.HeldLaws.{length-held, held-reads}
-use Rattle.lcf.specs.declared.state.State.{State}
+use Rattle.ports.specs.declared.state.State.{State}
 use Rattle.shelf.specs.Hosts.{hostsOf}
 use Rattle.shelf.specs.Grants.{grantFor, granted}
 use Rattle.shelf.specs.Step.{output}

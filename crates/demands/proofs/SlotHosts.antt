@@ -17,8 +17,8 @@ use Rattle.frames.specs.Config.{readConfig}
 use Rattle.frames.specs.Part.{frameLen, hostNumber}
 use Rattle.frames.specs.declared.config.Config.{Config}
 use Rattle.frames.proofs.Trips.{zeros-unread}
-use Rattle.lcf.specs.Heard.{clears, present, counted}
-use Rattle.lcf.specs.declared.state.State.{State}
+use Rattle.ports.specs.declared.state.State.{State}
+use Rattle.hearing.specs.Heard.{clears, present, counted}
 use Rattle.shelf.specs.Hosts.{said, isHeard, fieldOf, hostsOf}
 use Rattle.demands.specs.Origin as tables
 use Rattle.demands.specs.Share as tables-share

@@ -4,8 +4,8 @@ use mathlib.Core.Logic.{_⊎_, inl, inr, ⊎-elim, _↔_, Iff·trans}
 use Prim.Native.Nat.{ℕ, _^_, _≤_, _<_}
 use native.Mathlib.Omega.{arith}
 use borrow.Author.Tests.{ne-eqb}
-use Rattle.lcf.specs.Slot.{behind, declined}
-use Rattle.lcf.specs.declared.state.State.{State}
+use Rattle.ports.specs.Due.{behind, declined}
+use Rattle.ports.specs.declared.state.State.{State}
 use Rattle.shelf.specs.Step.{output}
 use Rattle.demands.specs.Call as tables
 use Rattle.demands.specs.Refusal.{InOrder, Nothing}

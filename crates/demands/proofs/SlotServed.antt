@@ -6,10 +6,10 @@ use Prim.Native.Nat.{ℕ, _*_, _≤_}
 use native.Mathlib.Omega.{arith}
 use lib.ListN.{length}
 use Rattle.frames.specs.Part.{frameLen, toldLen}
+use Rattle.ports.specs.Due.{behind}
+use Rattle.ports.specs.declared.state.State.{State}
+use Rattle.ports.specs.declared.answer.Stepped.{Stepped}
 use Rattle.lcf.specs.Advance.{advance}
-use Rattle.lcf.specs.Slot.{behind}
-use Rattle.lcf.specs.declared.state.State.{State}
-use Rattle.lcf.specs.declared.work.Stepped.{Stepped}
 use Rattle.demands.specs.Refusal.{InOrder}
 use Rattle.demands.specs.SlotCall.{SlotCall, next, number, onTables}
 use Rattle.demands.specs.Numbers.{WrongLimit, Stuck, Row, given, passed}

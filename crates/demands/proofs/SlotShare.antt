@@ -7,7 +7,7 @@ use borrow.Author.Tests.{eq-eqb, eqb-true, eqb-false}
 use Rattle.laws.specs.Sets.{asks}
 use Rattle.laws.proofs.Tests.{both}
 use Rattle.frames.specs.Part.{mostPorts}
-use Rattle.lcf.specs.declared.state.State.{State}
+use Rattle.ports.specs.declared.state.State.{State}
 use Rattle.demands.specs.History.{Below, howMany, InServed, quota, ByValue, Moves, Fair}
 use Rattle.demands.specs.Origin.{Alone}
 use Rattle.demands.specs.Call as tables

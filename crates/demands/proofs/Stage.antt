@@ -11,10 +11,10 @@ use Rattle.laws.proofs.Tests.{same}
 use Rattle.laws.proofs.Steps.{upto}
 use Rattle.laws.proofs.Members.{has-below, below-has, asks-row, asks-empty, tabled-asks}
 use Rattle.laws.proofs.Rows.{row-tabled}
+use Rattle.ports.specs.Tables.{within}
+use Rattle.ports.specs.declared.state.State.{State}
 use Rattle.lcf.specs.Join.{join}
-use Rattle.lcf.specs.Planned.{planner, planned}
-use Rattle.lcf.specs.Slot.{within, start}
-use Rattle.lcf.specs.declared.state.State.{State}
+use Rattle.lcf.specs.Planned.{planner, planned, start}
 use Rattle.lcf.specs.declared.work.Work.{Work}
 use Rattle.demands.specs.Origin.{Given, Live}
 use Rattle.demands.proofs.Choice.{chosen-once, chosen-same}

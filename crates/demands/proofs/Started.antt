@@ -3,9 +3,9 @@ use mathlib.Core.Path.{_≡_, ap, _∙_}
 use Prim.Native.Nat.{ℕ, _*_, _^_, _≤_, _<_}
 use lib.ListN.{length}
 use Rattle.frames.specs.Part.{frameLen, toldLen}
-use Rattle.lcf.specs.Ready.{fresh}
-use Rattle.lcf.specs.declared.state.Fresh.{Fresh}
-use Rattle.lcf.proofs.Started.{fresh-is}
+use Rattle.ports.specs.Ready.{fresh}
+use Rattle.ports.specs.declared.state.Fresh.{Fresh}
+use Rattle.ports.proofs.Started.{fresh-is}
 use Rattle.demands.specs.Refusal.{InOrder}
 use Rattle.demands.specs.Numbers.{WrongLimit}
 use Rattle.demands.specs.SlotCall.{SlotCall, number}

@@ -10,8 +10,8 @@ use native.Mathlib.Omega.{arith}
 use lib.Dec.{eqb}
 use borrow.Author.Tests.{ne-eqb}
 use Rattle.laws.proofs.Tests.{arms}
+use Rattle.ports.specs.declared.state.State.{State}
 use Rattle.lcf.specs.Advance.{advance}
-use Rattle.lcf.specs.declared.state.State.{State}
 use Rattle.demands.specs.History.{Below, howMany, InEach, InServed, quota, ByValue, Fair}
 
 -- ---- the offsets as one number

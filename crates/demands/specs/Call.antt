@@ -3,11 +3,11 @@ use mathlib.Core.Bool.{Bool}
 use mathlib.Core.List.{List}
 use Prim.Native.Nat.{ℕ}
 use lib.Dec.{eqb}
-use Rattle.lcf.specs.Heard.{counted}
+use Rattle.ports.specs.declared.state.State.{State}
+use Rattle.ports.specs.declared.state.Mode.{Mode}
+use Rattle.ports.specs.declared.answer.Stepped.{Stepped}
+use Rattle.hearing.specs.Heard.{counted}
 use Rattle.lcf.specs.Slot.{slotOnTables}
-use Rattle.lcf.specs.declared.state.State.{State}
-use Rattle.lcf.specs.declared.state.Mode.{Mode}
-use Rattle.lcf.specs.declared.work.Stepped.{Stepped}
 
 -- a slot number, a mode with its limit, the request table and the planned table
 pub record Call : Type 0 where

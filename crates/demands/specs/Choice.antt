@@ -7,9 +7,9 @@ use lib.Count.{ones}
 use lib.Dec.{eqb}
 use lib.ListN.{getD}
 use Rattle.laws.specs.Sets.{asks, column}
+use Rattle.ports.specs.declared.state.State.{State}
 use Rattle.lcf.specs.Choice.{place, turned}
 use Rattle.lcf.specs.Distributed.{grants}
-use Rattle.lcf.specs.declared.state.State.{State}
 
 -- of those below n that ask, c has the lowest number; among equals, it is the first in the rotation from a
 pub record Chosen (asking : ℕ → Bool) (number : ℕ → ℕ) (n a c : ℕ) : Type 0 where

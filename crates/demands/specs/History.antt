@@ -5,8 +5,8 @@ use mathlib.Core.Path.{_≡_}
 use mathlib.Core.Bool.{Bool, true, false, cond}
 use mathlib.Core.List.{List, [], _∷_}
 use Prim.Native.Nat.{ℕ, _+_, _*_, _/_, _<_}
+use Rattle.ports.specs.declared.state.State.{State}
 use Rattle.lcf.specs.Advance.{advance}
-use Rattle.lcf.specs.declared.state.State.{State}
 
 -- the offsets are below the ports
 pub record Below (st : State) : Type 0 where

@@ -7,9 +7,9 @@ use Prim.Native.Nat.{ℕ, _^_, _<_}
 use lib.Dec.{eqb}
 use lib.ListN.{replicate}
 use Rattle.laws.specs.Sets.{asks}
+use Rattle.ports.specs.declared.state.State.{State}
+use Rattle.ports.specs.declared.answer.Answer.{Answer}
 use Rattle.lcf.specs.Advance.{advance}
-use Rattle.lcf.specs.declared.state.State.{State}
-use Rattle.lcf.specs.declared.work.Answer.{Answer}
 use Rattle.card.specs.Slot.{Lent}
 use Rattle.demands.specs.SlotCall.{SlotCall}
 use Rattle.demands.specs.SlotShare as slots

@@ -5,10 +5,11 @@ use mathlib.Core.Bool.{true}
 use Prim.Native.Nat.{ℕ, _*_, _^_, _≤_, _<_}
 use lib.ListN.{length}
 use Rattle.frames.specs.Part.{frameLen, toldLen}
-use Rattle.lcf.specs.Slot.{matched, behind}
-use Rattle.lcf.specs.declared.state.State.{State}
-use Rattle.lcf.specs.declared.state.Mode.{Mode}
-use Rattle.lcf.specs.declared.state.Mode.the-variants.{Central, Distributed}
+use Rattle.ports.specs.Due.{behind}
+use Rattle.ports.specs.declared.state.State.{State}
+use Rattle.ports.specs.declared.state.Mode.{Mode}
+use Rattle.ports.specs.declared.state.Mode.the-variants.{Central, Distributed}
+use Rattle.lcf.specs.Slot.{matched}
 use Rattle.demands.specs.SlotCall.{SlotCall, onTables}
 
 -- the round limit is outside 1 to m

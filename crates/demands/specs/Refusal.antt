@@ -2,8 +2,8 @@
 use mathlib.Core.Path.{_≡_}
 use Prim.Native.Nat.{ℕ, _^_, _≤_, _<_}
 use lib.ListN.{replicate}
-use Rattle.lcf.specs.declared.state.State.{State}
-use Rattle.lcf.specs.declared.work.Stepped.{Stepped}
+use Rattle.ports.specs.declared.state.State.{State}
+use Rattle.ports.specs.declared.answer.Stepped.{Stepped}
 use Rattle.demands.specs.History.{Below}
 
 -- the state is in order on shelves of at most m ports: 1 to m ports, and offsets below them

@@ -6,12 +6,12 @@ use mathlib.Core.List.{List}
 use Prim.Native.Nat.{ℕ, _≤_, _<_}
 use Rattle.laws.specs.Steps.{steps}
 use Rattle.laws.specs.Sets.{asks}
+use Rattle.ports.specs.declared.state.State.{State}
+use Rattle.ports.specs.declared.state.Mode.{Mode}
+use Rattle.ports.specs.declared.state.Mode.the-variants.{Central, Distributed}
 use Rattle.lcf.specs.Join.{joinLive}
 use Rattle.lcf.specs.Distributed.{round}
-use Rattle.lcf.specs.Slot.{start}
-use Rattle.lcf.specs.declared.state.State.{State}
-use Rattle.lcf.specs.declared.state.Mode.{Mode}
-use Rattle.lcf.specs.declared.state.Mode.the-variants.{Central, Distributed}
+use Rattle.lcf.specs.Planned.{start}
 use Rattle.lcf.specs.declared.work.Work.{Work}
 use Rattle.demands.specs.SlotCall.{SlotCall, sets, onTables}
 

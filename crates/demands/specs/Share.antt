@@ -4,7 +4,7 @@ use mathlib.Core.Bool.{Bool, true, false, _&&_}
 use mathlib.Core.List.{List}
 use Prim.Native.Nat.{ℕ, _<_}
 use Rattle.laws.specs.Sets.{asks}
-use Rattle.lcf.specs.declared.state.State.{State}
+use Rattle.ports.specs.declared.state.State.{State}
 use Rattle.demands.specs.Call.{Call, sets, served}
 
 -- the call is served, and the pair (i, t) is in the table that it returns

@@ -3,9 +3,9 @@ use mathlib.Core.Bool.{Bool}
 use mathlib.Core.List.{List}
 use Prim.Native.Nat.{ℕ}
 use lib.Dec.{eqb}
-use Rattle.lcf.specs.declared.state.State.{State}
-use Rattle.lcf.specs.declared.state.Mode.{Mode}
-use Rattle.lcf.specs.declared.work.Stepped.{Stepped}
+use Rattle.ports.specs.declared.state.State.{State}
+use Rattle.ports.specs.declared.state.Mode.{Mode}
+use Rattle.ports.specs.declared.answer.Stepped.{Stepped}
 use Rattle.shelf.specs.Hosts.{hostsOf}
 use Rattle.shelf.specs.Step.{stepped, output}
 use Rattle.demands.specs.Call.{Call, counting}

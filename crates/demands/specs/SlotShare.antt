@@ -8,7 +8,7 @@ use Rattle.laws.specs.Sets.{has, asks}
 use Rattle.frames.specs.Width.{setBytes}
 use Rattle.frames.specs.Held.{readHeld}
 use Rattle.frames.specs.Part.{toldLen}
-use Rattle.lcf.specs.declared.state.State.{State}
+use Rattle.ports.specs.declared.state.State.{State}
 use Rattle.demands.specs.SlotCall.{SlotCall, sets, served, outputAfter}
 use Rattle.demands.specs.Block.{Waits}
 

@@ -6,17 +6,19 @@ use lib.Count.{ones}
 use lib.ListN.{replicate, take}
 use Rattle.laws.specs.Steps.{steps}
 use Rattle.frames.specs.Part.{mostPorts}
-use Rattle.lcf.specs.Heard.{present, counted}
+use Rattle.ports.specs.Tables.{within}
+use Rattle.ports.specs.Due.{behind, wrongLimit, dueNumber, declined}
+use Rattle.ports.specs.declared.state.State.{State}
+use Rattle.ports.specs.declared.state.Mode.{Mode}
+use Rattle.ports.specs.declared.state.Mode.the-variants.{Central, Distributed}
+use Rattle.hearing.specs.Heard.{present, counted}
 use Rattle.lcf.specs.Choice.{choice}
 use Rattle.lcf.specs.Join.{join, joinLive}
-use Rattle.lcf.specs.Planned.{planner, give, planned}
+use Rattle.lcf.specs.Planned.{planner, give, planned, start}
 use Rattle.lcf.specs.Central.{fewest, winner, serve}
 use Rattle.lcf.specs.Distributed.{askers, grants, offers, accepted, answer, round, oneMore, distributed}
 use Rattle.lcf.specs.Advance.{advance}
-use Rattle.lcf.specs.Slot.{within, start, serveMode, matched, behind, wrongLimit, dueNumber, declined, ended, slotOnTables}
-use Rattle.lcf.specs.declared.state.State.{State}
-use Rattle.lcf.specs.declared.state.Mode.{Mode}
-use Rattle.lcf.specs.declared.state.Mode.the-variants.{Central, Distributed}
+use Rattle.lcf.specs.Slot.{serveMode, matched, ended, slotOnTables}
 
 -- a table of which the first four rows are given
 whole : List ℕ → List ℕ

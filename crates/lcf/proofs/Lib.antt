@@ -1,9 +1,6 @@
 pub mod Cases
 pub mod Choices
-pub mod Hearing
-pub mod Ports
 pub mod Rounds
 pub mod Slots
-pub mod Started
 pub mod Unique
 pub mod Unplanned

@@ -1,19 +1,17 @@
--- What the number of a slot that is served says, over any greatest port count.
-use mathlib.Core.Path.{_≡_, refl, sym, ap, _∙_}
-use mathlib.Core.Bool.{Bool, true, false, _&&_, _||_, cond}
+-- The slot on tables by its parts, over any greatest port count.
+use mathlib.Core.Path.{_≡_, refl}
 use mathlib.Core.List.{List}
-use Prim.Native.Nat.{ℕ, _^_, _≤_}
-use lib.Dec.{ltb, leb}
+use Prim.Native.Nat.{ℕ}
 use lib.ListN.{length, replicate}
-use native.Mathlib.Omega.{arith}
-use borrow.Author.Tests.{ltb-false, leb-false, eq-eqb}
-use Rattle.laws.proofs.Tests.{neither}
-use Rattle.lcf.specs.Ready.{Ready}
-use Rattle.lcf.specs.Planned.{planned}
-use Rattle.lcf.specs.Slot.{within, start, matched, behind, wrongLimit, dueNumber, slotOnTables, orderly, startDue, finishDue}
-use Rattle.lcf.specs.declared.state.State.{State}
-use Rattle.lcf.specs.declared.state.Mode.{Mode}
-use Rattle.lcf.specs.declared.state.Mode.the-variants.{Central, Distributed}
+use borrow.Author.Tests.{eq-eqb}
+use Rattle.ports.specs.Tables.{within}
+use Rattle.ports.specs.Due.{wrongLimit, dueNumber}
+use Rattle.ports.specs.declared.state.State.{State}
+use Rattle.ports.specs.declared.state.Mode.{Mode}
+use Rattle.ports.specs.declared.state.Mode.the-variants.{Central}
+use Rattle.ports.proofs.Numbers.{served, due-now}
+use Rattle.lcf.specs.Planned.{planned, start}
+use Rattle.lcf.specs.Slot.{matched, slotOnTables, orderly, startDue, finishDue}
 use Rattle.lcf.specs.declared.work.Work.{Work}
 
 -- rules 3 and 4 on rows of m
@@ -21,47 +19,6 @@ pub started : (st : State) (req pre : List ℕ) (m : ℕ) {live held claims : Li
     → held ≡ replicate m 0 → claims ≡ within (st .ports) pre → r ≡ planned st claims (record { live = live; held = held }) → r ≡ start st req pre
 unfolding start
 started st req pre m p q h l e = rw (e, q, h, l, p)
-
-passed : (a b c d e : Bool) → _≡_ {A = ℕ} (cond a 1 (cond b 2 (cond c 3 (cond d 4 (cond e 5 0))))) 0 → (a ≡ false) × (b ≡ false) × (e ≡ false)
-passed true b c d e h = absurd (omega arith)
-passed false true c d e h = absurd (omega arith)
-passed false false true d e h = absurd (omega arith)
-passed false false false true e h = absurd (omega arith)
-passed false false false false true h = absurd (omega arith)
-passed false false false false false h = (refl, refl, refl)
-
-pub record Served (m : ℕ) (st : State) (mode : Mode) : Type 0 where
-  pub ready : Ready m st
-  pub limit : wrongLimit m mode ≡ false
-
-pub served : (m : ℕ) (st : State) (slot : ℕ) (mode : Mode) → dueNumber m st slot mode ≡ 0 → Served m st mode
-unfolding dueNumber
-served m st slot mode e =
-    let n = st .ports in
-    let late = behind st slot in
-    let p = passed (ltb n 1 || ltb m n) (leb n (st .initiator .0) || leb n (st .target .0)) (leb 1 late && leb late (2 ^ 31)) (ltb (2 ^ 31) late) (wrongLimit m mode) e in
-    let offsets = neither (leb n (st .initiator .0)) (leb n (st .target .0)) (p .1) in
-    record {
-      ready = record { ports = ltb-false m n (neither (ltb n 1) (ltb m n) (p .0) .1); initiator = leb-false n _ (offsets .0); target = leb-false n _ (offsets .1) };
-      limit = p .2;
-    }
-
-pub limit-fits : (m limit : ℕ) (mode : Mode) → mode ≡ Distributed limit → wrongLimit m mode ≡ false → limit ≤ m
-unfolding wrongLimit
-limit-fits m limit mode e h = ltb-false m limit (neither (ltb limit 1) (ltb m limit) (sym (ap (wrongLimit m) e) ∙ h) .1)
-
-on-time : (st : State) → behind st (st .due) ≡ 0
-unfolding behind
-on-time st = omega arith
-
--- a state that is served in a slot is in order for the slot that is due
-due-now : (m : ℕ) (st : State) (slot : ℕ) (mode other : Mode) → dueNumber m st slot mode ≡ 0 → wrongLimit m other ≡ false → dueNumber m st (st .due) other ≡ 0
-unfolding dueNumber
-due-now m st slot mode other e limit =
-    let n = st .ports in
-    let late = behind st slot in
-    let p = passed (ltb n 1 || ltb m n) (leb n (st .initiator .0) || leb n (st .target .0)) (leb 1 late && leb late (2 ^ 31)) (ltb (2 ^ 31) late) (wrongLimit m mode) e in
-    rw (on-time st, p .0, p .1, limit)
 
 -- a slot in two calls is the slot on tables, if its number is 0
 pub in-two : (m : ℕ) (st : State) (slot : ℕ) (mode : Mode) (req pre : List ℕ) → dueNumber m st slot mode ≡ 0

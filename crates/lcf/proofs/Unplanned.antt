@@ -14,10 +14,10 @@ use Rattle.laws.proofs.Loops.{stays}
 use Rattle.laws.proofs.Members.{has-none}
 use Rattle.laws.proofs.Steps.{upto}
 use Rattle.laws.proofs.Tests.{arms, neither}
+use Rattle.ports.specs.declared.state.State.{State}
 use Rattle.lcf.specs.Choice.{place, turned, chosen, choice}
 use Rattle.lcf.specs.Planned.{planner, give, planned}
 use Rattle.lcf.specs.Distributed.{anyLive}
-use Rattle.lcf.specs.declared.state.State.{State}
 use Rattle.lcf.specs.declared.work.Work.{Work}
 
 empty-rows : (rows : List ℕ) (n : ℕ) → anyLive rows n ≡ false → (i : ℕ) → i < n → getD rows i 0 ≡ 0

@@ -2,7 +2,7 @@
 use Prim.Native.Nat.{_+_, _%_, _^_}
 use mathlib.Core.Bool.{cond}
 use lib.Dec.{eqb}
-use Rattle.lcf.specs.declared.state.State.{State}
+use Rattle.ports.specs.declared.state.State.{State}
 
 unfoldable pub advance : State → State
 advance st =

@@ -5,9 +5,9 @@ use mathlib.Core.List.{List}
 use lib.ListN.{getD}
 use Rattle.laws.specs.Steps.{steps}
 use Rattle.laws.specs.Sets.{has, asks, column, sizes}
+use Rattle.ports.specs.declared.state.State.{State}
 use Rattle.lcf.specs.Choice.{place, choice}
 use Rattle.lcf.specs.Join.{joinLive}
-use Rattle.lcf.specs.declared.state.State.{State}
 use Rattle.lcf.specs.declared.work.Work.{Work}
 
 -- of the initiators asking for target t, the one with the fewest live requests; among equals, the first in the rotation from a

@@ -6,10 +6,10 @@ use lib.Dec.{eqb}
 use lib.ListN.{length, getD}
 use Rattle.laws.specs.Steps.{steps}
 use Rattle.laws.specs.Sets.{has, asks, gathered, column, sizes, tabled}
+use Rattle.ports.specs.declared.state.State.{State}
 use Rattle.lcf.specs.Choice.{turned, choice}
 use Rattle.lcf.specs.Join.{join, joinLive}
 use Rattle.lcf.specs.Central.{fewest}
-use Rattle.lcf.specs.declared.state.State.{State}
 use Rattle.lcf.specs.declared.work.Work.{Work}
 use Rattle.lcf.specs.declared.work.Round.{Round}
 use Rattle.lcf.specs.declared.work.Run.{Run}

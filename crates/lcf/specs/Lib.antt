@@ -1,6 +1,3 @@
-pub mod Ready
-pub mod Modes
-pub mod Heard
 pub mod Choice
 pub mod Scan
 pub mod Join

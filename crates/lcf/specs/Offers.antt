@@ -6,10 +6,10 @@ use mathlib.Core.List.{List}
 use lib.ListN.{getD, set}
 use Rattle.laws.specs.Steps.{steps}
 use Rattle.laws.specs.Sets.{has, asks, with}
+use Rattle.ports.specs.declared.state.State.{State}
 use Rattle.lcf.specs.Choice.{turned, choice}
 use Rattle.lcf.specs.Join.{join}
 use Rattle.lcf.specs.Distributed.{grants, offers}
-use Rattle.lcf.specs.declared.state.State.{State}
 use Rattle.lcf.specs.declared.work.Round.{Round}
 
 -- whom target t grants, of those asking it, by how many each asks

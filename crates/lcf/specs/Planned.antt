@@ -2,11 +2,13 @@
 use Prim.Native.Nat.{ℕ}
 use mathlib.Core.Bool.{cond}
 use mathlib.Core.List.{List}
+use lib.ListN.{length, replicate}
 use Rattle.laws.specs.Steps.{steps}
 use Rattle.laws.specs.Sets.{has, asks, column}
+use Rattle.ports.specs.Tables.{within}
+use Rattle.ports.specs.declared.state.State.{State}
 use Rattle.lcf.specs.Choice.{turned, choice}
 use Rattle.lcf.specs.Join.{join}
-use Rattle.lcf.specs.declared.state.State.{State}
 use Rattle.lcf.specs.declared.work.Work.{Work}
 
 -- rule 3: the first claimant of target t in the rotation that starts at (I + t - J) mod n
@@ -23,3 +25,7 @@ given st pre = steps (give st pre)
 
 unfoldable pub planned : State → List ℕ → Work → Work
 planned st pre s = given st pre s (st .ports)
+
+-- both rules, on the tables of the requests and of the planned claims
+unfoldable pub start : State → List ℕ → List ℕ → Work
+start st req pre = planned st (within (st .ports) pre) (record { live = within (st .ports) req; held = replicate (length req) 0 })

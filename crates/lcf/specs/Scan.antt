@@ -1,16 +1,11 @@
 -- How far the choice has come, as it goes from member to member of a rotation and passes over the others.
 use mathlib.Core.Path.{_≡_}
 use mathlib.Core.Bool.{Bool, _&&_}
-use Prim.Native.Nat.{ℕ, _+_, _*_, _<_, _≤_}
+use Prim.Native.Nat.{ℕ, _+_, _<_, _≤_}
 use lib.Dec.{ltb}
 use Rattle.laws.specs.Sets.{has}
-use Rattle.frames.specs.Part.{mostPorts}
 use Rattle.lcf.specs.Choice.{place, chosen}
 use Rattle.lcf.specs.declared.choice.Scan.{Scan}
-
--- the bits of a word in which a set of the ports is moved
-abbrev pub scanBits : ℕ
-scanBits = 2 * mostPorts
 
 -- s holds, for each place from k on, whether it is one of the n places and has p
 abbrev pub Turned : (ℕ → Bool) → ℕ → ℕ → ℕ → ℕ → Type 0

@@ -1,28 +1,19 @@
--- One slot on tables: rules 3 to 7, and the numbers 1 to 5 and 12.
-use Prim.Native.Nat.{ℕ, _+_, _-_, _%_, _^_}
-use mathlib.Core.Bool.{Bool, false, _&&_, _||_, cond}
+-- One slot on tables: rules 3 to 7, and number 12.
+use Prim.Native.Nat.{ℕ}
+use mathlib.Core.Bool.{false, cond}
 use mathlib.Core.List.{List}
-use lib.Dec.{eqb, ltb, leb}
-use lib.ListN.{length, getD, replicate}
-use Rattle.laws.specs.Sets.{tabled}
-use Rattle.lcf.specs.Planned.{planned}
+use lib.Dec.{eqb}
+use Rattle.ports.specs.Due.{dueNumber, declined}
+use Rattle.ports.specs.declared.state.State.{State}
+use Rattle.ports.specs.declared.state.Mode.{Mode}
+use Rattle.ports.specs.declared.state.Mode.the-variants.{Central, Distributed}
+use Rattle.ports.specs.declared.answer.Stepped.{Stepped}
+use Rattle.lcf.specs.Planned.{start}
 use Rattle.lcf.specs.Central.{central}
 use Rattle.lcf.specs.Distributed.{distributed}
 use Rattle.lcf.specs.Advance.{advance}
-use Rattle.lcf.specs.declared.state.State.{State}
-use Rattle.lcf.specs.declared.state.Mode.{Mode}
-use Rattle.lcf.specs.declared.state.Mode.the-variants.{Central, Distributed}
 use Rattle.lcf.specs.declared.work.Work.{Work}
 use Rattle.lcf.specs.declared.work.Run.{Run}
-use Rattle.lcf.specs.declared.work.Stepped.{Stepped}
-
--- rule 1: rows and bits at or above n are ignored
-unfoldable pub within : ℕ → List ℕ → List ℕ
-within n rows = tabled (length rows) (λ i. getD rows i 0 % 2 ^ n) n
-
--- rules 3 and 4
-unfoldable pub start : State → List ℕ → List ℕ → Work
-start st req pre = planned st (within (st .ports) pre) (record { live = within (st .ports) req; held = replicate (length req) 0 })
 
 -- rules 5 and 6
 unfoldable pub serveMode : State → Mode → Work → Run
@@ -31,28 +22,6 @@ serveMode st (Distributed limit) s = distributed st limit s
 
 unfoldable pub matched : State → Mode → List ℕ → List ℕ → Run
 matched st mode req pre = serveMode st mode (start st req pre)
-
--- how far the slot is behind the one due, modulo 2 ^ 32
-unfoldable pub behind : State → ℕ → ℕ
-behind st slot = (st .due + 2 ^ 32 - slot) % 2 ^ 32
-
--- the round limit is outside 1 to m
-unfoldable pub wrongLimit : ℕ → Mode → Bool
-wrongLimit m Central = false
-wrongLimit m (Distributed limit) = ltb limit 1 || ltb m limit
-
--- the numbers 1 to 5, on shelves of at most m ports; 0 if none applies
-unfoldable pub dueNumber : ℕ → State → ℕ → Mode → ℕ
-dueNumber m st slot mode =
-    cond (ltb (st .ports) 1 || ltb m (st .ports)) 1
-    (cond (leb (st .ports) (st .initiator .0) || leb (st .ports) (st .target .0)) 2
-    (cond (leb 1 (behind st slot) && leb (behind st slot) (2 ^ 31)) 3
-    (cond (ltb (2 ^ 31) (behind st slot)) 4
-    (cond (wrongLimit m mode) 5 0))))
-
--- a declined slot: the state as it was, sixteen empty sets and 0 rounds
-unfoldable pub declined : ℕ → State → ℕ → Stepped
-declined m st number = record { state = st; answer = record { number = number; rounds = 0; sets = replicate m 0 } }
 
 -- a slot that was run: number 12 if a round joined nobody, and otherwise what was matched
 unfoldable pub ended : ℕ → State → Run → Stepped

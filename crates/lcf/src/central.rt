@@ -4,16 +4,16 @@ use crate::choice::wrapped;
 use crate::join::join_live;
 use crate::sets::column;
 use crate::sets::sizes;
-use crate::state::Initiator;
-use crate::state::State;
-use crate::state::Table;
-use crate::state::Target;
 use crate::work::Work;
+use ports::Initiator;
+use ports::State;
+use ports::Table;
+use ports::Target;
 use words::holds;
 ghost use mathlib.Core.Path.{_≡_};
 ghost use Prim.Native.Nat.{_<_, _≤_};
 ghost use Rattle.frames.specs.Part.{mostPorts};
-ghost use Rattle.lcf.specs.Ready.{Ready};
+ghost use Rattle.ports.specs.Ready.{Ready};
 ghost use Rattle.lcf.specs.Central.{winner, serve, central};
 
 fn winner(live: Table, n: usize, t: Target, a: Initiator) -> Initiator

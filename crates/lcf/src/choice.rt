@@ -1,18 +1,17 @@
 // The choice of rules 3, 5 and 6, and where its rotation starts.
-use crate::sets::clip;
-use crate::state::Counts;
-use crate::state::Initiator;
-use crate::state::Moved;
-use crate::state::Set;
-use crate::state::State;
-use crate::state::Target;
+use crate::sets::Counts;
+use ports::Initiator;
+use ports::Moved;
+use ports::Set;
+use ports::State;
+use ports::Target;
 use words::holds;
 ghost use mathlib.Core.Path.{_≡_};
 ghost use Prim.Native.Nat.{_+_, _%_, _<_, _≤_};
 ghost use lib.ListN.{getD};
 ghost use Rattle.frames.specs.Part.{mostPorts};
 ghost use Rattle.laws.specs.Sets.{has};
-ghost use Rattle.lcf.specs.Ready.{Ready};
+ghost use Rattle.ports.specs.Ready.{Ready};
 ghost use Rattle.lcf.specs.Choice.{place, turned, better, choice};
 ghost use Rattle.lcf.specs.Scan.{Turned, Scanned};
 
@@ -71,9 +70,8 @@ fn rotated(among: Set, n: usize, from: usize) -> Moved
     requires { ⌜ (n ≤ mostPorts) × (from < n) ⌝ }
     ensures { λ r. ⌜ Turned (has among) n from 0 r ⌝ }
 {
-    let s = clip(among, n);
-    let low = clip(s, from);
-    ((low as Moved) << (n - from)) + ((s as Moved) >> from)
+    let s = among as Moved % (1 << n);
+    ((s % (1 << from)) << (n - from)) + (s >> from)
 }
 
 // To the next member at once: who does not ask costs no time.

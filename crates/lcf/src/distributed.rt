@@ -3,33 +3,27 @@ use crate::choice::choose;
 use crate::choice::first_initiator;
 use crate::choice::first_target;
 use crate::join::join;
+use crate::sets::Counts;
 use crate::sets::column;
 use crate::sets::full;
 use crate::sets::gather;
 use crate::sets::sizes;
-use crate::state::Counts;
-use crate::state::Initiator;
-use crate::state::Set;
-use crate::state::State;
-use crate::state::Table;
-use crate::state::Target;
 use crate::work::Round;
 use crate::work::Run;
 use crate::work::Work;
+use ports::Initiator;
+use ports::Set;
+use ports::State;
+use ports::Table;
+use ports::Target;
 use words::holds;
 ghost use mathlib.Core.Path.{_≡_};
 ghost use mathlib.Core.Bool.{not, _&&_};
 ghost use Prim.Native.Nat.{_+_, _<_, _≤_};
 ghost use Rattle.frames.specs.Part.{mostPorts};
-ghost use Rattle.lcf.specs.Ready.{Ready};
+ghost use Rattle.ports.specs.Ready.{Ready};
 ghost use Rattle.lcf.specs.Join.{joinLive};
-ghost use Rattle.lcf.specs.Distributed.{
-  askers,
-  round,
-  anyLive,
-  oneMore,
-  distributed,
-};
+ghost use Rattle.lcf.specs.Distributed.{askers, round, anyLive, oneMore, distributed};
 ghost use Rattle.lcf.specs.Offers.{granted, Offers, accept};
 
 fn askers(state: State, live: &Table) -> Table

@@ -1,11 +1,11 @@
 // How a pair is joined: its row and its column stop being live.
 use crate::sets::clear;
 use crate::sets::put;
-use crate::state::Initiator;
-use crate::state::State;
-use crate::state::Table;
-use crate::state::Target;
 use crate::work::Work;
+use ports::Initiator;
+use ports::State;
+use ports::Table;
+use ports::Target;
 use words::holds;
 ghost use mathlib.Core.Path.{_≡_};
 ghost use mathlib.Core.List.{map};

@@ -4,16 +4,16 @@ use crate::choice::first_initiator;
 use crate::distributed::any_live;
 use crate::join::join;
 use crate::sets::column;
-use crate::state::Initiator;
-use crate::state::State;
-use crate::state::Table;
-use crate::state::Target;
 use crate::work::Work;
+use ports::Initiator;
+use ports::State;
+use ports::Table;
+use ports::Target;
 use words::holds;
 ghost use mathlib.Core.Path.{_≡_};
 ghost use Prim.Native.Nat.{_<_};
 ghost use Rattle.frames.specs.Part.{mostPorts};
-ghost use Rattle.lcf.specs.Ready.{Ready};
+ghost use Rattle.ports.specs.Ready.{Ready};
 ghost use Rattle.lcf.specs.Planned.{planner, give, planned};
 
 // Every claimant counts as equal, so the first in the rotation is chosen.

@@ -1,19 +1,19 @@
 // Sets of ports as words, and tables of them.
-use crate::state::Counts;
-use crate::state::Moved;
-use crate::state::Set;
-use crate::state::State;
-use crate::state::Table;
-use crate::state::Target;
+use ports::Set;
+use ports::State;
+use ports::Table;
+use ports::Target;
 use words::holds;
 ghost use mathlib.Core.Path.{_≡_};
 ghost use mathlib.Core.Bool.{cond};
-ghost use Prim.Native.Nat.{min, _%_, _^_, _<_, _≤_};
+ghost use Prim.Native.Nat.{_<_, _≤_};
 ghost use lib.Count.{ones};
 ghost use lib.ListN.{length};
 ghost use Rattle.frames.specs.Part.{mostPorts};
 ghost use Rattle.laws.specs.Sets.{has, with, without, column, sizes};
-ghost use Rattle.lcf.specs.Slot.{within};
+
+// A number of at most State::MOST for each port.
+pub(crate) type Counts = [u8; State::MOST];
 
 pub(crate) fn put(s: Set, k: usize) -> Set
     requires { ⌜ k < mostPorts ⌝ }
@@ -27,36 +27,6 @@ pub(crate) fn clear(s: Set, k: usize) -> Set
     ensures { λ r. ⌜ r ≡ without s k ⌝ }
 {
     s - (s & (1 << k))
-}
-
-pub(crate) fn at_most(ports: usize) -> usize
-    ensures { λ r. ⌜ r ≡ min ports mostPorts ⌝ }
-{
-    if ports < State::MOST {
-        ports
-    } else {
-        State::MOST
-    }
-}
-
-// The row's bits below n.
-pub(crate) fn clip(row: Set, n: usize) -> Set
-    requires { ⌜ n ≤ mostPorts ⌝ }
-    ensures { λ r. ⌜ r ≡ row % 2 ^ n ⌝ }
-{
-    (row as Moved % (1 << n)) as Set
-}
-
-// The table as n ports see it: rows and bits at or above n are ignored.
-pub fn within(n: usize, rows: Table) -> Table
-    ensures { λ r. ⌜ r ≡ within n rows ⌝ }
-{
-    let ports = at_most(n);
-    let mut table = State::empty_table();
-    for i in 0..ports {
-        table[i] = clip(rows[i], ports);
-    }
-    table
 }
 
 // s with one more member, an initiator or a target, if the row has t.

@@ -1,36 +1,28 @@
-// One slot on tables: rules 3 to 7, and the numbers 1 to 5 and 12.
+// One slot on tables: rules 3 to 7, and number 12.
 use crate::central::central;
 use crate::choice::wrapped;
 use crate::distributed::distributed;
 use crate::planned::planned;
-use crate::sets::within;
-use crate::state::Initiator;
-use crate::state::Mode;
-use crate::state::State;
-use crate::state::Table;
-use crate::state::Target;
-use crate::work::Answer;
 use crate::work::Run;
-use crate::work::Stepped;
 use crate::work::Work;
+use ports::Answer;
+use ports::Initiator;
+use ports::Mode;
+use ports::State;
+use ports::Stepped;
+use ports::Table;
+use ports::Target;
+use ports::declined;
+use ports::due_number;
+use ports::within;
 ghost use mathlib.Core.Path.{_≡_};
 ghost use mathlib.Core.Bool.{false};
 ghost use Rattle.frames.specs.Part.{mostPorts};
-ghost use Rattle.lcf.specs.Ready.{Ready};
+ghost use Rattle.ports.specs.Ready.{Ready};
+ghost use Rattle.ports.specs.Due.{wrongLimit};
 ghost use Rattle.lcf.specs.Advance.{advance};
-ghost use Rattle.lcf.specs.Slot.{
-  start,
-  serveMode,
-  behind,
-  wrongLimit,
-  dueNumber,
-  declined,
-  ended,
-  slotOnTables,
-  orderly,
-  startDue,
-  finishDue,
-};
+ghost use Rattle.lcf.specs.Planned.{start};
+ghost use Rattle.lcf.specs.Slot.{serveMode, ended, slotOnTables, orderly, startDue, finishDue};
 
 // Rule 7.
 fn advance(state: State) -> State
@@ -81,58 +73,6 @@ fn serve_mode(state: State, mode: Mode, work: Work) -> Run
             stuck: false,
         },
         Mode::Distributed(limit) => distributed(state, limit, work),
-    }
-}
-
-fn behind(state: State, slot: u32) -> u32
-    ensures { λ r. ⌜ r ≡ behind state slot ⌝ }
-{
-    std::num::wrapping_sub_u32(state.due, slot)
-}
-
-fn wrong_limit(mode: Mode) -> bool
-    ensures { λ r. ⌜ r ≡ wrongLimit mostPorts mode ⌝ }
-{
-    match mode {
-        Mode::Central => false,
-        Mode::Distributed(limit) => (limit < 1) | ((State::MOST as u32) < limit),
-    }
-}
-
-// The numbers 1 to 5, or 0 if the slot is to be served.
-pub fn due_number(state: State, slot: u32, mode: Mode) -> u8
-    ensures { λ r. ⌜ r ≡ dueNumber mostPorts state slot mode ⌝ }
-{
-    if (state.ports < 1) | (State::MOST < state.ports) {
-        return 1;
-    }
-    if (state.ports <= state.initiator.0) | (state.ports <= state.target.0) {
-        return 2;
-    }
-    let late = behind(state, slot);
-    if (1 <= late) & (late <= 2147483648) {
-        return 3;
-    }
-    if 2147483648 < late {
-        return 4;
-    }
-    if wrong_limit(mode) {
-        return 5;
-    }
-    0
-}
-
-// What a slot that is not served answers.
-pub fn declined(state: State, number: u8) -> Stepped
-    ensures { λ r. ⌜ r ≡ declined mostPorts state number ⌝ }
-{
-    Stepped {
-        state,
-        answer: Answer {
-            number,
-            rounds: 0,
-            sets: State::empty_table(),
-        },
     }
 }
 

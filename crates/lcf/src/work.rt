@@ -1,6 +1,5 @@
-// What a slot works on, and what it answers.
-use crate::state::State;
-use crate::state::Table;
+// What a slot works on.
+use ports::Table;
 
 // The live requests and the targets held, a row for each initiator.
 pub struct Work {
@@ -19,15 +18,4 @@ pub struct Run {
     pub work: Work,
     pub rounds: u8,
     pub stuck: bool,
-}
-
-pub struct Answer {
-    pub number: u8,
-    pub rounds: u8,
-    pub sets: Table,
-}
-
-pub struct Stepped {
-    pub state: State,
-    pub answer: Answer,
 }

@@ -4,7 +4,7 @@ use mathlib.Core.Path.{_≡_, refl}
 use mathlib.Core.List.{List, [], _∷_}
 use Prim.Native.Nat.{ℕ}
 use Rattle.laws.specs.Steps.{steps}
-use Rattle.lcf.specs.Slot.{within}
+use Rattle.ports.specs.Tables.{within}
 use Rattle.ledger.specs.Counts.{raised}
 use Rattle.ledger.specs.Events.{meet, less, happened}
 use Rattle.ledger.specs.Ledger.{empty, figuresOf, high, over, refusal, number, next, feed}

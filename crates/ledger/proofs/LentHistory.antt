@@ -15,7 +15,7 @@ use Rattle.laws.specs.Sets.{tabled}
 use Rattle.laws.proofs.Members.{set-row}
 use Rattle.laws.proofs.Rows.{length-tabled, no-bits}
 use Rattle.laws.proofs.Steps.{kept}
-use Rattle.lcf.specs.Slot.{within}
+use Rattle.ports.specs.Tables.{within}
 use Rattle.ledger.specs.Counts.{pairs}
 use Rattle.ledger.specs.Events.{but, less, happened}
 use Rattle.ledger.specs.Ledger.{empty, shown, number, next, feed}

@@ -15,8 +15,8 @@ use Rattle.laws.proofs.Rows.{no-bits}
 use Rattle.laws.proofs.Members.{asks-empty}
 use Rattle.laws.proofs.Steps.{some-true}
 use Rattle.laws.proofs.Tests.{refuted}
-use Rattle.lcf.specs.Slot.{within}
-use Rattle.lcf.proofs.Ports.{asks-within}
+use Rattle.ports.specs.Tables.{within}
+use Rattle.ports.proofs.Seen.{asks-within}
 use Rattle.ledger.specs.Counts.{pairs, pair, raised, mostSlots}
 use Rattle.ledger.specs.Events.{happened}
 use Rattle.ledger.specs.Ledger.{empty, figuresOf, high, over, refusal, number, next}

@@ -4,7 +4,7 @@ use mathlib.Core.List.{List}
 use lib.Bits.{bitAnd, bitXor}
 use lib.ListN.{getD}
 use Rattle.laws.specs.Sets.{tabled}
-use Rattle.lcf.specs.Slot.{within}
+use Rattle.ports.specs.Tables.{within}
 use Rattle.ledger.specs.declared.events.Events.{Events}
 
 -- what a set has and another has not

@@ -1,7 +1,7 @@
 // Tables of counts, a count for each pair: that of (i, t) is number i * State::MOST + t.
-use lcf::Set;
-use lcf::State;
-use lcf::Table;
+use ports::Set;
+use ports::State;
+use ports::Table;
 ghost use mathlib.Core.Path.{_≡_};
 ghost use mathlib.Core.Bool.{_&&_, cond};
 ghost use Prim.Native.Nat.{ℕ, _+_, _-_, _≤_, _<_};

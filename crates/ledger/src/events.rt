@@ -1,7 +1,7 @@
 // What a slot is to the pairs of a shelf.
-use lcf::Set;
-use lcf::State;
-use lcf::Table;
+use ports::Set;
+use ports::State;
+use ports::Table;
 ghost use mathlib.Core.Path.{_≡_};
 ghost use mathlib.Core.Bool.{not};
 ghost use Prim.Native.Nat.{ℕ, _^_, _<_};
@@ -67,7 +67,7 @@ pub(crate) fn any(rows: Table) -> bool
 pub(crate) fn happened(n: usize, waited: Table, asked: Table, connected: Table) -> Events
     ensures { λ r. ⌜ r ≡ happened mostPorts n waited asked connected ⌝ }
 {
-    let asks = lcf::within(n, asked);
+    let asks = ports::within(n, asked);
     Events {
         asked: asks,
         connected: meet(asks, connected),

@@ -5,9 +5,9 @@ ghost use Prim.Native.Nat.{_<_, min};
 ghost use Rattle.frames.specs.Part.{mostPorts};
 ghost use Rattle.lines.specs.Line.{decimal, separator, target, targets, initiator, initiators, slotLine};
 ghost use Rattle.lines.specs.Put.{Put};
-use lcf::Set;
-use lcf::State;
-use lcf::Table;
+use ports::Set;
+use ports::State;
+use ports::Table;
 use words::holds;
 
 // No line of a slot is longer.

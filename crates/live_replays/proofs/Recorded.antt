@@ -13,12 +13,13 @@ use Rattle.laws.proofs.Loops.{same-steps}
 use Rattle.laws.proofs.Parts.{length-parts, part-at}
 use Rattle.laws.proofs.Tests.{every, arms}
 use Rattle.frames.specs.Part.{mostPorts, frameLen}
+use Rattle.ports.specs.Modes.{modeOf}
+use Rattle.ports.specs.Due.{wrongLimit, dueNumber, declined}
+use Rattle.ports.specs.declared.state.State.{State}
+use Rattle.ports.specs.declared.answer.Stepped.{Stepped}
 use Rattle.lcf.specs.Advance.{advance}
-use Rattle.lcf.specs.Modes.{modeOf}
-use Rattle.lcf.specs.Slot.{wrongLimit, dueNumber, declined, slotOnTables}
-use Rattle.lcf.specs.declared.state.State.{State}
-use Rattle.lcf.specs.declared.work.Stepped.{Stepped}
-use Rattle.lcf.proofs.Slots as tables
+use Rattle.lcf.specs.Slot.{slotOnTables}
+use Rattle.ports.proofs.Numbers as tables
 use Rattle.demands.specs.SlotCall.{SlotCall, number}
 use Rattle.demands.proofs.SlotCalls.{whole, same-number}
 use Rattle.demands.proofs.SlotServed.{served-advances}

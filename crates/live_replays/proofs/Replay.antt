@@ -10,8 +10,8 @@ use Rattle.laws.specs.Parts.{parts}
 use Rattle.laws.specs.Steps.{steps}
 use Rattle.laws.proofs.Loops.{same-steps}
 use Rattle.frames.specs.Part.{mostPorts}
-use Rattle.lcf.specs.declared.state.State.{State}
-use Rattle.lcf.specs.declared.work.Stepped.{Stepped}
+use Rattle.ports.specs.declared.state.State.{State}
+use Rattle.ports.specs.declared.answer.Stepped.{Stepped}
 use Rattle.shelf.specs.Step.{refusal, stepped}
 use Rattle.shelf.specs.Unanswered.{unanswered}
 use Rattle.shelf.proofs.Refusals.{taken}

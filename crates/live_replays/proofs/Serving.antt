@@ -13,10 +13,10 @@ use borrow.Author.Tests.{leb-true, ltb-true, lt-ltb, le-leb}
 use Rattle.laws.specs.Steps.{steps}
 use Rattle.laws.proofs.Tests.{both, every, in-range}
 use Rattle.frames.specs.Part.{mostPorts, frameLen, toldLen}
+use Rattle.ports.specs.Modes.{modeOf}
+use Rattle.ports.specs.declared.state.State.{State}
+use Rattle.ports.specs.declared.answer.Stepped.{Stepped}
 use Rattle.lcf.specs.Advance.{advance}
-use Rattle.lcf.specs.Modes.{modeOf}
-use Rattle.lcf.specs.declared.state.State.{State}
-use Rattle.lcf.specs.declared.work.Stepped.{Stepped}
 use Rattle.shelf.specs.Unanswered.{justRoom, unanswered}
 use Rattle.demands.specs.Numbers.{WrongLimit}
 use Rattle.demands.specs.Refusal.{InOrder}

@@ -4,8 +4,8 @@ use mathlib.Core.Path.{_≡_}
 use mathlib.Core.List.{List}
 use Rattle.laws.specs.Parts.{parts}
 use Rattle.laws.specs.Steps.{steps}
-use Rattle.lcf.specs.Modes.{modeOf}
-use Rattle.lcf.specs.declared.state.State.{State}
+use Rattle.ports.specs.Modes.{modeOf}
+use Rattle.ports.specs.declared.state.State.{State}
 use Rattle.demands.specs.SlotCall.{SlotCall, next, number}
 use Rattle.trace_parts.specs.Layout.{mostSlots}
 use Rattle.trace_parts.specs.declared.body.Fields.{Fields}

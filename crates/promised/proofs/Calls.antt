@@ -13,8 +13,8 @@ use borrow.Author.Tests.{eq-eqb, ne-eqb, eqb-true}
 use Rattle.laws.specs.Bytes.{row}
 use Rattle.laws.proofs.Tests.{both, every, refuted}
 use Rattle.frames.specs.Part.{mostPorts}
-use Rattle.lcf.specs.declared.state.State.{State}
-use Rattle.lcf.specs.declared.work.Answer.{Answer}
+use Rattle.ports.specs.declared.state.State.{State}
+use Rattle.ports.specs.declared.answer.Answer.{Answer}
 use Rattle.demands.specs.SlotCall as frames
 use Rattle.demands.specs.Numbers.{Row, given, passed}
 use Rattle.demands.specs.Refusal.{InOrder}

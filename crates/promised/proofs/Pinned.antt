@@ -9,11 +9,11 @@ use lib.ListN.{length, take}
 use Rattle.laws.specs.Bytes.{bigEndian}
 use Rattle.laws.proofs.Bytes.{number-big}
 use Rattle.frames.specs.Part.{mostPorts, frameLen, toldLen}
-use Rattle.lcf.specs.Modes.{modeOf}
-use Rattle.lcf.specs.Ready.{fresh}
-use Rattle.lcf.specs.declared.state.State.{State}
-use Rattle.lcf.specs.declared.state.Fresh.{Fresh}
-use Rattle.lcf.proofs.Started.{fresh-is}
+use Rattle.ports.specs.Modes.{modeOf}
+use Rattle.ports.specs.Ready.{fresh}
+use Rattle.ports.specs.declared.state.State.{State}
+use Rattle.ports.specs.declared.state.Fresh.{Fresh}
+use Rattle.ports.proofs.Started.{fresh-is}
 use Rattle.demands.specs.Numbers.{WrongLimit}
 use Rattle.demands.specs.Block.{QenAlone}
 use Rattle.demands.specs.SlotCall as frames

@@ -7,7 +7,7 @@ use lib.ListN.{length, take, drop, length-drop, List·getD-append}
 use lib.Seq.{take-append-le, drop-append-le}
 use Rattle.laws.specs.Bytes.{number}
 use Rattle.frames.specs.Part.{mostPorts}
-use Rattle.lcf.specs.declared.state.State.{State}
+use Rattle.ports.specs.declared.state.State.{State}
 use Rattle.demands.specs.Refusal.{Valid}
 use Rattle.bellacush.specs.State.{Fits}
 use Rattle.bellacush.specs.Slot.{stateLen, stateOf}

@@ -11,15 +11,17 @@ use Rattle.frames.specs.Frame.{formNumber}
 use Rattle.frames.specs.Config.{configOf}
 use Rattle.frames.specs.Held.{heldFrame}
 use Rattle.frames.specs.Part.{mostPorts, hostNumber}
-use Rattle.lcf.specs.Heard.{present, counted}
+use Rattle.ports.specs.Modes.{modeOf}
+use Rattle.ports.specs.Tables.{within}
+use Rattle.ports.specs.Due.{behind, wrongLimit, dueNumber, declined}
+use Rattle.hearing.specs.Heard.{present, counted}
 use Rattle.lcf.specs.Choice.{choice}
 use Rattle.lcf.specs.Join.{join, joinLive}
-use Rattle.lcf.specs.Planned.{planner, give, planned}
+use Rattle.lcf.specs.Planned.{planner, give, planned, start}
 use Rattle.lcf.specs.Central.{fewest, winner, serve}
 use Rattle.lcf.specs.Distributed.{askers, grants, offers, accepted, answer, round, oneMore, distributed}
 use Rattle.lcf.specs.Advance.{advance}
-use Rattle.lcf.specs.Modes.{modeOf}
-use Rattle.lcf.specs.Slot.{within, start, serveMode, matched, behind, wrongLimit, dueNumber, declined, ended, slotOnTables}
+use Rattle.lcf.specs.Slot.{serveMode, matched, ended, slotOnTables}
 use Rattle.shelf.specs.Hosts.{said, hostsOf}
 use Rattle.shelf.specs.Grants.{grantFor, granted}
 use Rattle.shelf.specs.Step.{refusal, slotOnHosts, stepped, output}

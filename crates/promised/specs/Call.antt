@@ -5,7 +5,7 @@ use mathlib.Core.List.{List, _++_}
 use Prim.Native.Nat.{ℕ, _*_, _/_, _%_}
 use lib.Dec.{eqb}
 use lib.ListN.{length, take, drop}
-use Rattle.lcf.specs.Modes.{modeOf}
+use Rattle.ports.specs.Modes.{modeOf}
 use Rattle.demands.specs.SlotCall.{SlotCall}
 use Rattle.bellacush.specs.Slot.{stateLen, slotWord, slotState, slotTable, slotOutput}
 

@@ -1,9 +1,9 @@
 // Replays the trace that the argument names, or standard input, and prints a line for each slot.
 ghost use Prim.Native.Nat.{_≤_};
-use lcf::Stepped;
 use libc::STDERR_FILENO;
 use libc::STDIN_FILENO;
 use libc::STDOUT_FILENO;
+use ports::Stepped;
 use trace_parts::EntryRead;
 use trace_parts::Head;
 

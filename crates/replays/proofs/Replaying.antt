@@ -13,10 +13,10 @@ use Rattle.laws.specs.Parts.{parts}
 use Rattle.laws.specs.Steps.{steps}
 use Rattle.laws.proofs.Bytes.{length-big}
 use Rattle.laws.proofs.Parts.{length-parts, next-part}
-use Rattle.lcf.specs.Modes.{modeOf}
-use Rattle.lcf.specs.declared.state.State.{State}
-use Rattle.lcf.specs.declared.state.Mode.{Mode}
-use Rattle.lcf.specs.declared.work.Stepped.{Stepped}
+use Rattle.ports.specs.Modes.{modeOf}
+use Rattle.ports.specs.declared.state.State.{State}
+use Rattle.ports.specs.declared.state.Mode.{Mode}
+use Rattle.ports.specs.declared.answer.Stepped.{Stepped}
 use Rattle.table_bytes.specs.Table.{tableLen, tableBytes, tablePut}
 use Rattle.shelf.specs.Unanswered.{unanswered}
 use Rattle.trace_parts.specs.Body.{readFields, blockPart}

@@ -2,9 +2,9 @@
 use Prim.Native.Nat.{ℕ}
 use mathlib.Core.List.{List}
 use Rattle.laws.specs.Steps.{steps}
-use Rattle.lcf.specs.Modes.{modeOf}
-use Rattle.lcf.specs.declared.state.State.{State}
-use Rattle.lcf.specs.declared.work.Stepped.{Stepped}
+use Rattle.ports.specs.Modes.{modeOf}
+use Rattle.ports.specs.declared.state.State.{State}
+use Rattle.ports.specs.declared.answer.Stepped.{Stepped}
 use Rattle.shelf.specs.Unanswered.{unanswered}
 use Rattle.trace_parts.specs.Body.{readFields, blockPart}
 

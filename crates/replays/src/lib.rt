@@ -7,10 +7,10 @@ ghost use Rattle.frames.specs.Part.{mostPorts};
 ghost use Rattle.table_bytes.specs.Table.{tablePut};
 ghost use Rattle.replays.specs.Replay.{startState, replaySlot};
 ghost use Rattle.replays.specs.Tables.{allTables, allLen, replayNumber, replayTables};
-use lcf::Initiator;
-use lcf::State;
-use lcf::Stepped;
-use lcf::Target;
+use ports::Initiator;
+use ports::State;
+use ports::Stepped;
+use ports::Target;
 use table_bytes::TABLE_LEN;
 
 // The state before the first slot of a body.
@@ -35,7 +35,7 @@ pub fn replay_slot(n: usize, slots: u16, k: usize, body: &[u8], state: State) ->
     let fields = read.fields;
     let mut number: u8 = 0;
     let block = trace_parts::slot_block(n, slots, k, body, &mut number);
-    shelf::unanswered(state, state.due, lcf::mode_of(fields.mode), block)
+    shelf::unanswered(state, state.due, ports::mode_of(fields.mode), block)
 }
 
 // Puts its table at the front of the bytes, and gives the next state.

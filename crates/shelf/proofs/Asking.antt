@@ -10,8 +10,8 @@ use borrow.Author.Tests.{ltb-false, eq-eqb, ne-eqb}
 use Rattle.laws.proofs.Tests.{neither}
 use Rattle.frames.specs.Part.{frameLen}
 use Rattle.frames.specs.Frame.{differs}
-use Rattle.lcf.specs.Heard.{tables}
-use Rattle.lcf.specs.Slot.{within}
+use Rattle.ports.specs.Tables.{within}
+use Rattle.hearing.specs.Heard.{tables}
 use Rattle.shelf.specs.Hosts.{hostsOf}
 use Rattle.shelf.specs.Asked.{blockNumber, setsAsked}
 use Rattle.shelf.specs.Told.{toldOf}

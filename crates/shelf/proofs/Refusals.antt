@@ -9,10 +9,10 @@ use lib.ListN.{length}
 use borrow.Author.Tests.{ltb-false, eqb-true, not-false}
 use Rattle.frames.specs.Part.{frameLen, toldLen}
 use Rattle.frames.specs.Frame.{differs}
-use Rattle.lcf.specs.Slot.{dueNumber}
-use Rattle.lcf.proofs.Slots.{served}
-use Rattle.lcf.specs.declared.state.State.{State}
-use Rattle.lcf.specs.declared.state.Mode.{Mode}
+use Rattle.ports.specs.Due.{dueNumber}
+use Rattle.ports.proofs.Numbers.{served}
+use Rattle.ports.specs.declared.state.State.{State}
+use Rattle.ports.specs.declared.state.Mode.{Mode}
 use Rattle.shelf.specs.Step.{refusal}
 
 pub due-ports : (m : ℕ) (st : State) (slot : ℕ) (mode : Mode) → dueNumber m st slot mode ≡ 0 → st .ports ≤ m

@@ -3,11 +3,12 @@ use mathlib.Core.Path.{_≡_, refl, sym, ap, _∙_}
 use mathlib.Core.List.{List}
 use Prim.Native.Nat.{ℕ}
 use borrow.Author.Tests.{eq-eqb, ne-eqb}
-use Rattle.lcf.specs.Slot.{declined, finishDue}
+use Rattle.ports.specs.Due.{declined}
+use Rattle.ports.specs.declared.state.State.{State}
+use Rattle.ports.specs.declared.state.Mode.{Mode}
+use Rattle.ports.specs.declared.answer.Stepped.{Stepped}
+use Rattle.lcf.specs.Slot.{finishDue}
 use Rattle.lcf.proofs.Slots.{in-two}
-use Rattle.lcf.specs.declared.state.State.{State}
-use Rattle.lcf.specs.declared.state.Mode.{Mode}
-use Rattle.lcf.specs.declared.work.Stepped.{Stepped}
 use Rattle.shelf.specs.Hosts.{hostsOf}
 use Rattle.shelf.specs.Grants.{granted}
 use Rattle.shelf.specs.Step.{refusal, slotOnHosts, stepped, output}

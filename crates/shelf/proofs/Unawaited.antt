@@ -9,9 +9,9 @@ use lib.ListN.{length, length-replicate}
 use borrow.Author.Tests.{le-ltb}
 use Rattle.frames.specs.Part.{frameLen, toldLen}
 use Rattle.frames.specs.Frame.{differs}
-use Rattle.lcf.specs.Slot.{dueNumber}
-use Rattle.lcf.specs.declared.state.State.{State}
-use Rattle.lcf.specs.declared.state.Mode.{Mode}
+use Rattle.ports.specs.Due.{dueNumber}
+use Rattle.ports.specs.declared.state.State.{State}
+use Rattle.ports.specs.declared.state.Mode.{Mode}
 use Rattle.shelf.specs.Step.{refusal, stepped}
 use Rattle.shelf.specs.Unanswered.{justRoom, blockRefusal, unanswered}
 

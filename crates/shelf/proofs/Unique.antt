@@ -3,7 +3,7 @@
 use mathlib.Core.Path.{_≡_}
 use denote.Ref.{now}
 use Rattle.laws.proofs.Unique.{the-result}
-use Rattle.lcf.specs.declared.work.Stepped.{Stepped}
+use Rattle.ports.specs.declared.answer.Stepped.{Stepped}
 use Rattle.shelf.specs.declared.asked.Asked.{Asked}
 use Rattle.shelf.proofs.asked.sets_asked.Reads as sets-asked
 use Rattle.shelf.proofs.by_value.step.Reads as step

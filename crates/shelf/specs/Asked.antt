@@ -6,8 +6,8 @@ use lib.Dec.{eqb, ltb}
 use lib.ListN.{length, replicate}
 use Rattle.frames.specs.Part.{frameLen}
 use Rattle.frames.specs.Frame.{differs}
-use Rattle.lcf.specs.Heard.{counted}
-use Rattle.lcf.specs.Slot.{within}
+use Rattle.ports.specs.Tables.{within}
+use Rattle.hearing.specs.Heard.{counted}
 use Rattle.shelf.specs.Hosts.{hostsOf}
 use Rattle.shelf.specs.declared.asked.Asked.{Asked}
 

@@ -1,8 +1,8 @@
 -- Rules 1 to 4 on frames: who is heard, and the slot up to its live requests.
 use Prim.Native.Nat.{ℕ}
-use Rattle.lcf.specs.Heard.{counted}
+use Rattle.ports.specs.declared.state.State.{State}
+use Rattle.hearing.specs.Heard.{counted}
 use Rattle.lcf.specs.Slot.{startDue}
-use Rattle.lcf.specs.declared.state.State.{State}
 use Rattle.shelf.specs.declared.by_value.Begun.{Begun}
 use Rattle.shelf.specs.declared.hosts.Hosts.{Hosts}
 

@@ -6,11 +6,12 @@ use lib.Dec.{eqb, ltb}
 use lib.ListN.{length}
 use Rattle.frames.specs.Part.{frameLen, toldLen}
 use Rattle.frames.specs.Frame.{differs}
-use Rattle.lcf.specs.Heard.{counted}
-use Rattle.lcf.specs.Slot.{dueNumber, declined, slotOnTables}
-use Rattle.lcf.specs.declared.state.State.{State}
-use Rattle.lcf.specs.declared.state.Mode.{Mode}
-use Rattle.lcf.specs.declared.work.Stepped.{Stepped}
+use Rattle.ports.specs.Due.{dueNumber, declined}
+use Rattle.ports.specs.declared.state.State.{State}
+use Rattle.ports.specs.declared.state.Mode.{Mode}
+use Rattle.ports.specs.declared.answer.Stepped.{Stepped}
+use Rattle.hearing.specs.Heard.{counted}
+use Rattle.lcf.specs.Slot.{slotOnTables}
 use Rattle.shelf.specs.Hosts.{hostsOf}
 use Rattle.shelf.specs.Grants.{granted}
 use Rattle.shelf.specs.declared.hosts.Hosts.{Hosts}

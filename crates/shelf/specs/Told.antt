@@ -1,6 +1,6 @@
 -- Rules 1 and 2 on frames: who is heard, and what counts of req and pre.
 use Prim.Native.Nat.{ℕ}
-use Rattle.lcf.specs.Heard.{tables}
+use Rattle.hearing.specs.Heard.{tables}
 use Rattle.shelf.specs.declared.hosts.Hosts.{Hosts}
 use Rattle.shelf.specs.declared.hosts.Told.{Told}
 

@@ -3,9 +3,9 @@ use Prim.Native.Nat.{ℕ, _*_}
 use mathlib.Core.List.{List}
 use lib.ListN.{replicate}
 use Rattle.frames.specs.Part.{toldLen}
-use Rattle.lcf.specs.declared.state.State.{State}
-use Rattle.lcf.specs.declared.state.Mode.{Mode}
-use Rattle.lcf.specs.declared.work.Stepped.{Stepped}
+use Rattle.ports.specs.declared.state.State.{State}
+use Rattle.ports.specs.declared.state.Mode.{Mode}
+use Rattle.ports.specs.declared.answer.Stepped.{Stepped}
 use Rattle.shelf.specs.Step.{refusal, stepped}
 
 abbrev pub justRoom : State → List ℕ

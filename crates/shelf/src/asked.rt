@@ -4,8 +4,8 @@ ghost use Rattle.frames.specs.Part.{mostPorts};
 ghost use Rattle.shelf.specs.Asked.{blockNumber, setsAsked};
 use crate::hosts::listen;
 use frames::Config;
-use lcf::State;
-use lcf::Table;
+use ports::State;
+use ports::Table;
 
 // The number, and the sets: empty, if the number is not 0.
 pub struct Asked {
@@ -41,6 +41,6 @@ pub fn sets_asked(n: usize, block: &[u8]) -> Asked
     let req = counted.req;
     Asked {
         number: 0,
-        sets: lcf::within(n, req),
+        sets: ports::within(n, req),
     }
 }

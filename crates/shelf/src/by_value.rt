@@ -10,16 +10,16 @@ use crate::grants::write_grants;
 use crate::hosts::listen;
 use frames::Config;
 use frames::Held;
-use lcf::Mode;
-use lcf::Set;
-use lcf::State;
-use lcf::Stepped;
 use lcf::Work;
+use ports::Mode;
+use ports::Set;
+use ports::State;
+use ports::Stepped;
 
 fn block_refusal(state: State, slot: u32, mode: Mode, block: &[u8]) -> u8
     ensures { λ r. ⌜ r ≡ blockRefusal mostPorts state slot mode (now (block .entry)) ⌝ }
 {
-    let number = lcf::due_number(state, slot, mode);
+    let number = ports::due_number(state, slot, mode);
     if number != 0 {
         return number;
     }
@@ -68,7 +68,7 @@ pub fn step(state: State, slot: u32, mode: Mode, block: &[u8], link: Set, out: &
 {
     let number = refusal(state, slot, mode, block, out);
     if number != 0 {
-        return lcf::declined(state, number);
+        return ports::declined(state, number);
     }
     let begun = begin(state, block);
     let work = begun.work;
@@ -88,7 +88,7 @@ pub fn unanswered(state: State, slot: u32, mode: Mode, block: &[u8]) -> Stepped
 {
     let number = block_refusal(state, slot, mode, block);
     if number != 0 {
-        return lcf::declined(state, number);
+        return ports::declined(state, number);
     }
     let begun = begin(state, block);
     let work = begun.work;

@@ -8,8 +8,8 @@ ghost use Rattle.frames.specs.Held.{heldInForm};
 ghost use Rattle.frames.specs.Part.{mostPorts, toldLen};
 ghost use Rattle.shelf.specs.Grants.{grantFor, granted};
 use frames::Held;
-use lcf::Set;
-use lcf::Table;
+use ports::Set;
+use ports::Table;
 use words::holds;
 
 fn grant_for(heard: Set, link: Set, sets: Table, i: usize) -> Held

@@ -3,14 +3,14 @@ ghost use mathlib.Core.Path.{_≡_};
 ghost use Prim.Native.Nat.{_≤_};
 ghost use Rattle.frames.specs.Part.{mostPorts};
 ghost use Rattle.frames.specs.Config.{configAnswer};
-ghost use Rattle.lcf.specs.Heard.{tables};
+ghost use Rattle.hearing.specs.Heard.{tables};
 ghost use Rattle.shelf.specs.Hosts.{said, hostsOf};
 ghost use Rattle.shelf.specs.Told.{toldOf};
 use frames::ConfigRead;
-use lcf::Set;
-use lcf::State;
-use lcf::Table;
-use lcf::Tables;
+use hearing::Tables;
+use ports::Set;
+use ports::State;
+use ports::Table;
 
 pub struct Hosts {
     pub heard: Set,
@@ -59,7 +59,7 @@ fn count_hosts(ports: usize, hosts: Hosts) -> Tables
     let ben = hosts.ben;
     let req = hosts.req;
     let pre = hosts.pre;
-    lcf::counted(ports, hosts.heard, ben, req, pre)
+    hearing::counted(ports, hosts.heard, ben, req, pre)
 }
 
 // Who is heard, and what counts of req and pre.

@@ -3,7 +3,7 @@ use mathlib.Core.Path.{_≡_}
 use mathlib.Core.List.{List}
 use Prim.Native.Nat.{ℕ}
 use Rattle.laws.proofs.Unique.{the-result}
-use Rattle.lcf.specs.declared.state.State.{State}
+use Rattle.ports.specs.declared.state.State.{State}
 use Rattle.shown.proofs.at.Reads as at
 use Rattle.shown.proofs.due_at.Reads as due-at
 use Rattle.shown.proofs.rows.Reads as rows

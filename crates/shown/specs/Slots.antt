@@ -2,7 +2,7 @@
 use Prim.Native.Nat.{ℕ, _-_, _/_, _%_}
 use mathlib.Core.List.{List, _∷_}
 use lib.ListN.{replicate}
-use Rattle.lcf.specs.declared.state.State.{State}
+use Rattle.ports.specs.declared.state.State.{State}
 
 -- n ports at offsets (i, j)
 abbrev pub stateAt : ℕ → ℕ → ℕ → ℕ → State

@@ -2,11 +2,11 @@
 ghost use mathlib.Core.Path.{_≡_};
 ghost use Rattle.frames.specs.Part.{mostPorts};
 ghost use Rattle.shown.specs.Slots.{stateAt, rowsOf};
-use lcf::Initiator;
-use lcf::State;
-use lcf::Table;
-use lcf::Target;
 use libc::STDOUT_FILENO;
+use ports::Initiator;
+use ports::State;
+use ports::Table;
+use ports::Target;
 
 fn text(bytes: &[u8]) {
     io::write_all(STDOUT_FILENO, bytes);

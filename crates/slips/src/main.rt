@@ -1,8 +1,8 @@
 // Small slots, each of which refuses a slip that cases A to I let pass. A line has its label, the number, the rounds, the next
 // offsets, the next slot due and the sets. The rows of req, pre and ben are a hexadecimal digit each, row 0 the last.
-use lcf::Mode;
-use lcf::State;
-use lcf::Table;
+use ports::Mode;
+use ports::State;
+use ports::Table;
 use shown::SLOT;
 use shown::at;
 use shown::due_at;
@@ -54,7 +54,7 @@ fn rounds(label: u64, n: usize, i: usize, j: usize, limit: u32, req: u16) {
 }
 
 fn hear(label: u64, n: usize, heard: u16, ben: u16, req: u16, pre: u16) {
-    let t = lcf::counted(n, heard, rows(ben), rows(req), rows(pre));
+    let t = hearing::counted(n, heard, rows(ben), rows(req), rows(pre));
     let req = t.req;
     let pre = t.pre;
     show(label, at(n, 0, 0), SLOT, Mode::Central, req, pre);

@@ -6,9 +6,9 @@ ghost use lib.ListN.{length, drop};
 ghost use Rattle.frames.specs.Part.{mostPorts};
 ghost use Rattle.laws.specs.Bytes.{bigEndian};
 ghost use Rattle.table_bytes.specs.Table.{tableLen, tableOf, tableIn, tableBytes, tablePut};
-use lcf::Set;
-use lcf::State;
-use lcf::Table;
+use ports::Set;
+use ports::State;
+use ports::Table;
 
 pub const TABLE_LEN: usize = State::MOST * 2;
 

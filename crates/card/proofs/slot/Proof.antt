@@ -45,18 +45,18 @@ use denote.Exit.{yes}
 use Rattle.frames.specs.Part.{mostPorts}
 use Rattle.shelf.specs.Step.{stepped, output}
 use Rattle.card.specs.Slot.{Lent}
-use Rattle.lcf.specs.declared.state.State.{State}
-use Rattle.lcf.specs.declared.state.Mode.{Mode}
-use Rattle.lcf.specs.declared.work.Answer.{Answer}
-use Rattle.lcf.specs.declared.work.Stepped.{Stepped}
-use Rattle.lcf.proofs.state.State as T
-use Rattle.lcf.proofs.state.State.Laws as T′
-use Rattle.lcf.proofs.state.Mode as K
-use Rattle.lcf.proofs.state.Mode.Laws as K′
-use Rattle.lcf.proofs.work.Answer as N
-use Rattle.lcf.proofs.work.Answer.Laws as N′
-use Rattle.lcf.proofs.work.Stepped as P
-use Rattle.lcf.proofs.work.Stepped.Laws as P′
+use Rattle.ports.specs.declared.state.State.{State}
+use Rattle.ports.specs.declared.state.Mode.{Mode}
+use Rattle.ports.specs.declared.answer.Answer.{Answer}
+use Rattle.ports.specs.declared.answer.Stepped.{Stepped}
+use Rattle.ports.proofs.state.State as T
+use Rattle.ports.proofs.state.State.Laws as T′
+use Rattle.ports.proofs.state.Mode as K
+use Rattle.ports.proofs.state.Mode.Laws as K′
+use Rattle.ports.proofs.answer.Answer as N
+use Rattle.ports.proofs.answer.Answer.Laws as N′
+use Rattle.ports.proofs.answer.Stepped as P
+use Rattle.ports.proofs.answer.Stepped.Laws as P′
 use Rattle.shelf.proofs.step as step
 use Rattle.shelf.proofs.step.Symbol as step-def
 use Rattle.shelf.proofs.step.Symbol.{name as #shelf·step}

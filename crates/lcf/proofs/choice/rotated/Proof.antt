@@ -1,5 +1,7 @@
 use borrow.Author.Needs.{needs}
-use Rattle.lcf.specs.Scan.{scanBits}
+use lib.Pow.{pow-pos}
+use Rattle.laws.proofs.Words.{single}
+use Rattle.ports.specs.Tables.{movedBits}
 use Rattle.lcf.proofs.Choices.{rotated-fits, rotated}
 use Rattle.lcf.proofs.choice.rotated.Statement.{statement}
 use Rattle.lcf.proofs.choice.rotated.Tie as tie
@@ -7,7 +9,9 @@ use Rattle.lcf.proofs.choice.rotated.Tie as tie
 pub rotated-spec : {M : Type 1} → statement M
 rotated-spec =
     tie.close
-    (tie.spec (λ c κs. search needs) (λ c κs. search needs) (λ c. search needs) (λ c. search needs) (λ c. search needs)
-    (λ c. search needs) (λ c. search needs) (λ c. search needs) (λ c. search needs)
-    (λ c. record { fits = rotated-fits _ _ _ (c .before .before .pre .1) scanBits (search needs) (c .before .clip .ensures) (c .clip2 .ensures) })
-    (λ c. rotated _ _ _ (c .before .before .pre .1) scanBits (search needs) (c .before .clip .ensures) (c .clip2 .ensures)))
+    (tie.spec (λ c. search needs) (λ c. search needs)
+    (λ c. rw (single movedBits (c .args .n) (search needs)) (pow-pos (c .args .n))) (λ c. search needs) (λ c. search needs)
+    (λ c. rw (single movedBits (c .args .from) (search needs)) (pow-pos (c .args .from))) (λ c. search needs) (λ c. search needs) (λ c. search needs)
+    (λ c. search needs) (λ c. search needs)
+    (λ c. record { fits = rotated-fits (c .args .among) _ _ (c .pre .1) movedBits (search needs) (rw (single movedBits (c .args .n) (search needs))) (rw (single movedBits (c .args .from) (search needs))) })
+    (λ c. rotated (c .args .among) _ _ (c .pre .1) movedBits (search needs) (rw (single movedBits (c .args .n) (search needs))) (rw (single movedBits (c .args .from) (search needs)))))

@@ -2,8 +2,8 @@ use mathlib.Core.Path.{sym, _∙_}
 use borrow.Author.Needs.{needs}
 use borrow.Author.Tests.{eq-eqb, ne-eqb}
 use Rattle.frames.specs.Part.{mostPorts}
+use Rattle.ports.proofs.Numbers.{served}
 use Rattle.lcf.specs.Slot.{finishDue}
-use Rattle.lcf.proofs.Slots.{served}
 use Rattle.lcf.proofs.slot.finish_due.Statement.{statement}
 use Rattle.lcf.proofs.slot.finish_due.Tie as tie
 

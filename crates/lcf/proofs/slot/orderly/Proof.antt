@@ -3,8 +3,8 @@ use native.Mathlib.Omega.{arith}
 use borrow.Author.Needs.{needs}
 use borrow.Author.Tests.{eq-eqb, ne-eqb}
 use Rattle.frames.specs.Part.{mostPorts}
+use Rattle.ports.proofs.Numbers.{served}
 use Rattle.lcf.specs.Slot.{orderly}
-use Rattle.lcf.proofs.Slots.{served}
 use Rattle.lcf.proofs.slot.orderly.Statement.{statement}
 use Rattle.lcf.proofs.slot.orderly.Tie as tie
 

@@ -1,7 +1,7 @@
 use borrow.Author.Needs.{needs}
 use Rattle.frames.specs.Part.{mostPorts}
+use Rattle.ports.proofs.Numbers.{limit-fits}
 use Rattle.lcf.specs.Slot.{serveMode}
-use Rattle.lcf.proofs.Slots.{limit-fits}
 use Rattle.lcf.proofs.slot.serve_mode.Statement.{statement}
 use Rattle.lcf.proofs.slot.serve_mode.Tie as tie
 

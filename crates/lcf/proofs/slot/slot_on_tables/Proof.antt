@@ -2,8 +2,8 @@ use borrow.Author.Needs.{needs}
 use mathlib.Core.Path.{sym, _∙_}
 use borrow.Author.Tests.{eq-eqb, ne-eqb}
 use Rattle.frames.specs.Part.{mostPorts}
+use Rattle.ports.proofs.Numbers.{served}
 use Rattle.lcf.specs.Slot.{matched, slotOnTables}
-use Rattle.lcf.proofs.Slots.{served}
 use Rattle.lcf.proofs.slot.slot_on_tables.Statement.{statement}
 use Rattle.lcf.proofs.slot.slot_on_tables.Tie as tie
 

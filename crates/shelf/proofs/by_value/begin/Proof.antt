@@ -1,5 +1,5 @@
 use borrow.Author.Needs.{needs}
-use Rattle.lcf.specs.Heard.{tables}
+use Rattle.hearing.specs.Heard.{tables}
 use Rattle.shelf.specs.Begun.{begunOf}
 use Rattle.shelf.specs.Told.{toldOf}
 use Rattle.shelf.proofs.by_value.begin.Statement.{statement}

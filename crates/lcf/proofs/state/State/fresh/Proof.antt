@@ -1,8 +1,0 @@
-use Rattle.laws.proofs.Branches.{branch}
-use Rattle.lcf.specs.Ready.{fresh}
-use Rattle.lcf.proofs.state.State.fresh.Statement.{statement}
-use Rattle.lcf.proofs.state.State.fresh.Tie as tie
-
-pub fresh-spec : {M : Type 1} → statement M
-unfolding fresh
-fresh-spec = tie.close (tie.spec (λ c. search branch) (λ c. search branch))

@@ -1,0 +1,4 @@
+pub mod Numbers
+pub mod Seen
+pub mod Started
+pub mod Unique

@@ -1,0 +1,4 @@
+pub mod Ready
+pub mod Modes
+pub mod Tables
+pub mod Due
