@@ -81,7 +81,14 @@ extern "C" {
 #define BELLACUSH_OFFSET 2 /* where in the file it starts */
 #define BELLACUSH_LENGTH 3 /* how many bytes it has */
 
-/* The numbers that calls return: 0, or why a call declined. */
+/*
+ * The numbers that calls return: 0, or why a call declined.
+ *
+ * 12 is not given, and gets no other meaning. It was kept for a round of the distributed form
+ * that begins with a live request and joins nobody. There is no such round: a target that is
+ * asked grants one of those who ask it, and whoever is granted something accepts one of them.
+ * So no call ever returned it; a 12 in a log did not come from this library.
+ */
 enum bellacush_number {
     BELLACUSH_DONE = 0,             /* done */
     BELLACUSH_BAD_PORTS = 1,        /* n outside 1 to 16 */
@@ -100,7 +107,6 @@ enum bellacush_number {
     BELLACUSH_BAD_GRANT_FIELD = 11, /* bits 3 to 7 of the flags set, nodeId above 15, gntVal
                                        without a target held or a target held without it; for
                                        figures, initiator or target above 15 */
-    BELLACUSH_NOBODY_JOINED = 12,   /* a distributed round with a live request joined nobody */
     BELLACUSH_BAD_LEDGER = 13,      /* 4294967295 slots are counted already, or a figure of the
                                        ledger is above its slots counted */
     BELLACUSH_BAD_TRACE = 14        /* anything that departs from the layout of a trace, or a
@@ -132,12 +138,14 @@ enum bellacush_number {
  *        first, bit t for target t. Several targets for one initiator are a planned multicast.
  *        No target is in two sets. The sets from n on are empty.
  *
- * Returns the number plus 256 times the rounds (0 for the central form). If the number is
+ * Returns the number plus 256 times the rounds (0 for the central form). Each round joins a
+ * pair, so there are no more rounds than ports, and a limit of n or more leaves no request
+ * whose initiator and target are both free. If the number is
  * BELLACUSH_DONE, the offsets in the state have moved on by one place (I by one; where it comes
  * round to 0, J too) and the due slot has grown by one; after 4294967295 comes 0.
  * Otherwise the call declined: the word returned is just the number, and state, out and table
  * keep every byte. So a block that comes twice is served once, and its copy is refused with
- * BELLACUSH_SLOT_STALE. Tested in order: 8 (state, table), 1, 2, 3 or 4, 5, 6, 7, 12.
+ * BELLACUSH_SLOT_STALE. Tested in order: 8 (state, table), 1, 2, 3 or 4, 5, 6, 7.
  *
  * Whatever the other hosts send, a pair is connected in at least W / n^2, rounded down, of any
  * W slots served one after another if in each of them its host is heard, enabled, asks for the

@@ -1,6 +1,6 @@
 -- What a call on tables answers, case by case.
 use mathlib.Core.Path.{_≡_, refl, sym, _∙_}
-use mathlib.Core.Logic.{_⊎_, inl, inr, ⊎-elim, _↔_}
+use mathlib.Core.Logic.{_↔_}
 use mathlib.Core.Bool.{Bool, true, false, _&&_, _||_, cond}
 use mathlib.Core.List.{List}
 use Prim.Native.Nat.{ℕ, _^_, _≤_, _<_}
@@ -78,15 +78,13 @@ module _ (m : ℕ) (st : State) (c : Call) where
   abbrev pub run : Run
   run = matched st (c .mode) (c .req) (c .pre)
 
-  -- it is served, or declined with the number due or with 12
+  -- it is served, or declined with the number due
   pub call-cases : (P : Stepped → Type 0)
       → (due ≡ 0 → P (record { state = advance st; answer = record { number = 0; rounds = run .rounds; sets = run .work .held } }))
-      → ((x : ℕ) → (x ≡ 0 → ⊥) → (due ≡ x) ⊎ ((due ≡ 0) × (x ≡ 12)) → P (declined m st x))
+      → ((x : ℕ) → (x ≡ 0 → ⊥) → due ≡ x → P (declined m st x))
       → P (called m st c)
   unfolding slotOnTables ended
-  call-cases P serves declines = arms P (eqb due 0) _ _
-      (λ e. let z = eqb-true due 0 e in arms P (run .stuck) _ _ (λ s. declines 12 (λ q. omega arith) (inr (z, refl))) (λ s. serves z))
-      (λ e. declines due (eqb-false due 0 e) (inl refl))
+  call-cases P serves declines = arms P (eqb due 0) _ _ (λ e. serves (eqb-true due 0 e)) (λ e. declines due (eqb-false due 0 e) refl)
 
   -- what holds of the matched table and of the empty one
   pub of-sets : (Q : List ℕ → Type 0) → Q (matched st (c .mode) (c .req) (c .pre) .work .held) → Q (replicate m 0) → Q (sets m st c)
@@ -107,12 +105,10 @@ module _ (m : ℕ) (st : State) (c : Call) where
       (λ z e. record { in-order = means .in-order (λ q. omega arith) (λ q. omega arith); on-time = means .on-time z; advances = refl; sets-matched = refl; rounds-run = refl })
       (λ x ne why e. absurd (ne e))
 
-  -- a number other than 0 and 12 is the number due
-  pub due-exactly : (x : ℕ) → (x ≡ 0 → ⊥) → (x ≡ 12 → ⊥) → (number m st c ≡ x) ↔ (dueNumber m st (c .slot) (c .mode) ≡ x)
+  -- a number other than 0 is the number due
+  pub due-exactly : (x : ℕ) → (x ≡ 0 → ⊥) → (number m st c ≡ x) ↔ (dueNumber m st (c .slot) (c .mode) ≡ x)
   unfolding declined
-  due-exactly x a b = (
-    call-cases (λ r. r .answer .number ≡ x → due ≡ x) (λ z e. absurd (a (sym e)))
-        (λ y ne why e. ⊎-elim (λ q. q ∙ e) (λ q. absurd (b (sym e ∙ q .1))) why),
-    call-cases (λ r. due ≡ x → r .answer .number ≡ x) (λ z e. absurd (a (sym e ∙ z)))
-        (λ y ne why e. ⊎-elim (λ q. sym q ∙ e) (λ q. absurd (a (sym e ∙ q .0))) why),
+  due-exactly x some = (
+    call-cases (λ r. r .answer .number ≡ x → due ≡ x) (λ z e. absurd (some (sym e))) (λ y ne why e. why ∙ e),
+    call-cases (λ r. due ≡ x → r .answer .number ≡ x) (λ z e. absurd (some (sym e ∙ z))) (λ y ne why e. sym why ∙ e),
   )

@@ -1,9 +1,8 @@
 -- The demands, in one list: each line names theorems, which stand where they are proved, over definitions in specs/. A slot call is
 -- `SlotCall` of specs/SlotCall.antt: what the step by value and the card's lent call promise to give. `m` is the greatest port count.
 
--- Demand 1. Each number is the first row of document 01's table that applies; the row of 12 never does.
+-- Demand 1. Each number is the first row of document 01's table that applies.
 pub use Rattle.demands.proofs.SlotCalls.{number-by-table}
-pub use Rattle.demands.proofs.SlotServed.{never-twelve}
 -- A declined call changes nothing; only the slot due is served, and others get 3 or 4; one that comes again gets 3.
 pub use Rattle.demands.proofs.SlotRefusal.{declined-does-nothing, served-when-due, other-declined, stale, early}
 pub use Rattle.demands.proofs.Resent.{resent-stale}
@@ -23,6 +22,11 @@ pub use Rattle.demands.proofs.Qen.{qen-unused, qen-unused-output}
 pub use Rattle.demands.proofs.Choice.{choice-chosen, chosen-once}
 pub use Rattle.demands.proofs.Rules.{planner-chosen, winner-favoured, winner-chosen, grants-chosen, accepted-chosen}
 pub use Rattle.demands.proofs.Rounds.{rounds-on-tables, rounds-run, rounds-once}
+-- A round with a live request joins a pair, so that the live requests fall, and there are no more rounds than ports. A limit of as many
+-- leaves no live request: the initiator or the target of each request is held.
+pub use Rattle.demands.proofs.Progress.{round-joins, round-falls}
+pub use Rattle.demands.proofs.Rounds.{each-joins, none-live-left}
+pub use Rattle.demands.proofs.NoneLeft.{busy-on-tables, busy-in-block}
 -- What each host is told: its grant frame in the output of a served slot, field by field; it names all that the host holds, and no more. No
 -- byte beyond the frames is touched.
 pub use Rattle.demands.proofs.SlotGrants.{grant-told, held-named, named-held, beyond-untouched}

@@ -1,6 +1,6 @@
 -- Every mode joins pairs one after another, each live when it is joined. So what the joining of a live pair keeps, every mode keeps.
 use mathlib.Core.Path.{_≡_, sym, ap, _∙_}
-use mathlib.Core.Bool.{true, false, not, _&&_}
+use mathlib.Core.Bool.{true, false, _&&_}
 use mathlib.Core.List.{List}
 use Prim.Native.Nat.{ℕ, suc, _%_, _≤_, _<_}
 use native.Mathlib.Nat.{add-zero, mod-eq-of-lt}
@@ -22,7 +22,6 @@ use Rattle.lcf.specs.Central.{winner, serve}
 use Rattle.lcf.specs.Distributed.{grants, offers, accepted, answer, round, anyLive, oneMore, rounds, distributed}
 use Rattle.lcf.specs.Slot.{serveMode}
 use Rattle.lcf.specs.declared.work.Work.{Work}
-use Rattle.lcf.specs.declared.work.Round.{Round}
 use Rattle.lcf.specs.declared.work.Run.{Run}
 use Rattle.demands.specs.History.{Below}
 use Rattle.demands.proofs.Join.{Left, left-live}
@@ -50,15 +49,15 @@ module _ (P : Work → Type 0) (keeps : (s : Work) (i t : ℕ) → asks (s .live
   -- the round that began with these live requests and these grants
   module _ (live asked grant : List ℕ) where
     -- after k initiators have answered: what the others are offered is still live
-    record Answered (k : ℕ) (r : Round) : Type 0 where
-      good : P (r .work)
-      still : (i t : ℕ) → k ≤ i → has (offers st live grant i) t ≡ true → asks (r .work .live) i t ≡ true
+    record Answered (k : ℕ) (s : Work) : Type 0 where
+      good : P s
+      still : (i t : ℕ) → k ≤ i → has (offers st live grant i) t ≡ true → asks (s .live) i t ≡ true
 
-    answer-keeps : (k : ℕ) (r : Round) → Answered k r → Answered (suc k) (answer st live asked grant k r)
+    answer-keeps : (k : ℕ) (s : Work) → Answered k s → Answered (suc k) (answer st live asked grant k s)
     unfolding answer
-    answer-keeps k r h =
+    answer-keeps k s h =
         arms (Answered (suc k)) (has offer t) _ _
-        (λ e. record { good = keeps (r .work) k t (h .still k t (omega arith) e) (h .good); still = λ i u l f. left-live (r .work) k t i u (others e i u l f) })
+        (λ e. record { good = keeps s k t (h .still k t (omega arith) e) (h .good); still = λ i u l f. left-live s k t i u (others e i u l f) })
         (λ e. record { good = h .good; still = λ i u l. h .still i u (omega arith) })
       where
         offer : ℕ
@@ -68,7 +67,7 @@ module _ (P : Work → Type 0) (keeps : (s : Work) (i t : ℕ) → asks (s .live
         t = accepted st asked offer k
 
         -- a target grants one initiator
-        others : has offer t ≡ true → (i u : ℕ) → suc k ≤ i → has (offers st live grant i) u ≡ true → Left (r .work) k t i u
+        others : has offer t ≡ true → (i u : ℕ) → suc k ≤ i → has (offers st live grant i) u ≡ true → Left s k t i u
         others e i u l f = record {
           was = h .still i u (omega arith) f;
           other-row = λ q. omega arith;
@@ -77,15 +76,15 @@ module _ (P : Work → Type 0) (keeps : (s : Work) (i t : ℕ) → asks (s .live
               omega arith;
         }
 
-  pub round-keeps : (s : Work) → P s → P (round st s .work)
+  pub round-keeps : (s : Work) → P s → P (round st s)
   unfolding round
-  round-keeps s p = kept _ _ (Answered (s .live) _ (grants st (s .live))) (st .ports) (λ k r h. answer-keeps (s .live) _ _ k r)
+  round-keeps s p = kept _ _ (Answered (s .live) _ (grants st (s .live))) (st .ports) (λ k u h. answer-keeps (s .live) _ _ k u)
       (record { good = p; still = λ i t l e. offered st (s .live) _ i t e .0 }) .good
 
   rounds-keep : (limit : ℕ) (r : Run) → P (r .work) → P (rounds st r limit .work)
   unfolding oneMore
   rounds-keep limit r p = kept _ r (λ k (u : Run). P (u .work)) limit
-      (λ k u h q. arms (λ (v : Run). P (v .work)) (anyLive (u .work .live) (st .ports) && not (u .stuck)) _ _ (λ e. round-keeps (u .work) q) (λ e. q)) p
+      (λ k u h q. arms (λ (v : Run). P (v .work)) (anyLive (u .work .live) (st .ports)) _ _ (λ e. round-keeps (u .work) q) (λ e. q)) p
 
   pub mode-keeps : (mode : Mode) (s : Work) → P s → P (serveMode st mode s .work)
   unfolding serveMode distributed

@@ -20,6 +20,7 @@ pub mod Choice
 pub mod Rules
 pub mod Qen
 pub mod Rounds
+pub mod NoneLeft
 pub mod Hosts
 pub mod Stage
 -- what they rest on

@@ -25,19 +25,19 @@ module _ (m : ℕ) (st : State) (c : Call) where
   -- Number 3, exactly: the slot is from 1 to 2147483648 behind the one due.
   pub stale : (number m st c ≡ 3) ↔ (InOrder m st × (1 ≤ behind st (c .slot)) × (behind st (c .slot) ≤ 2 ^ 31))
   stale = (
-    λ e. let d = due-exactly m st c 3 (λ q. omega arith) (λ q. omega arith) .0 e in
+    λ e. let d = due-exactly m st c 3 (λ q. omega arith) .0 e in
         let (x, y) = means m st c .stale d in
         (means m st c .in-order (λ q. omega arith) (λ q. omega arith), x, y),
-    λ (o, x, y). due-exactly m st c 3 (λ q. omega arith) (λ q. omega arith) .1
+    λ (o, x, y). due-exactly m st c 3 (λ q. omega arith) .1
         (ordered m st c o 3 (rw (le-leb 1 (behind st (c .slot)) x, le-leb (behind st (c .slot)) (2 ^ 31) y))),
   )
 
   -- Number 4, exactly: it is more than that behind.
   pub early : (number m st c ≡ 4) ↔ (InOrder m st × (2 ^ 31 < behind st (c .slot)))
   early = (
-    λ e. let d = due-exactly m st c 4 (λ q. omega arith) (λ q. omega arith) .0 e in
+    λ e. let d = due-exactly m st c 4 (λ q. omega arith) .0 e in
         (means m st c .in-order (λ q. omega arith) (λ q. omega arith), means m st c .early d),
-    λ (o, x). due-exactly m st c 4 (λ q. omega arith) (λ q. omega arith) .1
+    λ (o, x). due-exactly m st c 4 (λ q. omega arith) .1
         (ordered m st c o 4 (rw (le-leb 1 (behind st (c .slot)) (omega arith), lt-leb (behind st (c .slot)) (2 ^ 31) x, lt-ltb (2 ^ 31) (behind st (c .slot)) x))),
   )
 

@@ -18,14 +18,13 @@ use Rattle.ports.specs.declared.state.Mode.{Mode}
 use Rattle.ports.specs.declared.state.Mode.the-variants.{Central, Distributed}
 use Rattle.ports.specs.declared.answer.Stepped.{Stepped}
 use Rattle.hearing.specs.Heard.{counted}
-use Rattle.lcf.specs.Advance.{advance}
 use Rattle.lcf.specs.Slot.{matched, ended, slotOnTables}
 use Rattle.lcf.specs.declared.work.Run.{Run}
 use Rattle.shelf.specs.Hosts.{hostsOf}
 use Rattle.shelf.specs.Step.{refusal, slotOnHosts, stepped}
 use Rattle.demands.specs.Call as tables
 use Rattle.demands.specs.SlotCall.{SlotCall, called, number, sets, onTables}
-use Rattle.demands.specs.Numbers.{WrongLimit, Stuck, Row, given, passed, Table}
+use Rattle.demands.specs.Numbers.{WrongLimit, Row, given, passed, Table}
 use Rattle.demands.proofs.Calls.{due-exactly}
 use Rattle.demands.proofs.SlotHosts.{Whole}
 
@@ -96,9 +95,9 @@ module _ (m : ℕ) (st : State) (c : SlotCall) where
   -- the tests of the call in one nest
   flat : (r : Run) (a b c d e f g : Bool)
       → cond (eqb (refused (nest a b c d e 0) f g) 0)
-      (cond (eqb (nest a b c d e 0) 0) (ended m st r) (declined m st (nest a b c d e 0)))
+      (cond (eqb (nest a b c d e 0) 0) (ended st r) (declined m st (nest a b c d e 0)))
       (declined m st (refused (nest a b c d e 0) f g)) .answer .number
-      ≡ nest a b c d e (cond f 6 (cond g 7 (cond (r .stuck) 12 0)))
+      ≡ nest a b c d e (cond f 6 (cond g 7 0))
   unfolding ended declined
   flat r true b c d e f g = refl
   flat r false true c d e f g = refl
@@ -107,11 +106,7 @@ module _ (m : ℕ) (st : State) (c : SlotCall) where
   flat r false false false false true f g = refl
   flat r false false false false false true g = refl
   flat r false false false false false false true = refl
-  flat r false false false false false false false = go (r .stuck)
-    where
-      go : (b : Bool) → cond b (declined m st 12) (record { state = advance st; answer = record { number = 0; rounds = r .rounds; sets = r .work .held } }) .answer .number ≡ cond b 12 0
-      go true = refl
-      go false = refl
+  flat r false false false false false false false = refl
 
   tabled : Table m st c (number m st c)
   unfolding stepped refusal slotOnHosts slotOnTables dueNumber
@@ -122,8 +117,7 @@ module _ (m : ℕ) (st : State) (c : SlotCall) where
       (row 4 _ _ (tests-less _ _)
       (row 5 _ _ (tests-limit m (c .mode))
       (row 6 _ _ (tests-other _ _)
-      (row 7 _ _ (tests-less _ _)
-      (row 12 _ 0 (λ e. e, λ e. e) refl))))))))
+      (row 7 _ 0 (tests-less _ _) refl)))))))
     where
       n : ℕ
       n = st .ports
@@ -133,7 +127,7 @@ module _ (m : ℕ) (st : State) (c : SlotCall) where
 
   -- The number of a slot call is the table's, and the table gives one.
   pub number-by-table : (x : ℕ) → (number m st c ≡ x) ↔ Table m st c x
-  number-by-table x = (λ e. rw e at tabled, λ t. once (once (once (once (once (once (once (once (λ x y e f. e ∙ sym f)))))))) _ x tabled t)
+  number-by-table x = (λ e. rw e at tabled, λ t. once (once (once (once (once (once (once (λ x y e f. e ∙ sym f))))))) _ x tabled t)
 
   -- ---- the call
 
@@ -149,29 +143,25 @@ module _ (m : ℕ) (st : State) (c : SlotCall) where
   unfolding counted hostsOf
   request-rows = simp length-tabled
 
-  -- the block of a call that none of the numbers 1 to 7 declines is whole, and the rest of the table says the number
-  pub taken : (x : ℕ) → (1 ≤ x → x ≤ 7 → ⊥) → number m st c ≡ x → Whole m (st .ports) (c .block) × Row 12 (Stuck m st c) (λ x. x ≡ 0) x
-  taken x none e =
-      let (ports, t2) = other-number (λ q. none (omega arith) (omega arith)) (number-by-table x .0 e) in
-      let (_, t3) = other-number (λ q. none (omega arith) (omega arith)) t2 in
-      let (_, t4) = other-number (λ q. none (omega arith) (omega arith)) t3 in
-      let (_, t5) = other-number (λ q. none (omega arith) (omega arith)) t4 in
-      let (_, t6) = other-number (λ q. none (omega arith) (omega arith)) t5 in
-      let (block, t7) = other-number (λ q. none (omega arith) (omega arith)) t6 in
-      let (_, t12) = other-number (λ q. none (omega arith) (omega arith)) t7 in
-      (record { some-port = not-less (λ h. ports (inl h)); most-ports = not-less (λ h. ports (inr h)); whole-block = equal (ℕ-discrete _ _) block }, t12)
-    where
-      not-less : {x y : ℕ} → (x < y → ⊥) → y ≤ x
-      not-less h = omega arith
-
-      equal : {x y : ℕ} → Dec (x ≡ y) → ((x ≡ y → ⊥) → ⊥) → x ≡ y
-      equal (yes q) h = q
-      equal (no q) h = absurd (h q)
-
   -- a served call is the call on tables
   module _ (done : number m st c ≡ 0) where
+    -- no row applies, so the block is whole
     pub whole : Whole m (st .ports) (c .block)
-    whole = taken 0 (λ h l. omega arith) done .0
+    whole =
+        let (ports, t2) = other-number (λ q. omega arith) (number-by-table 0 .0 done) in
+        let (_, t3) = other-number (λ q. omega arith) t2 in
+        let (_, t4) = other-number (λ q. omega arith) t3 in
+        let (_, t5) = other-number (λ q. omega arith) t4 in
+        let (_, t6) = other-number (λ q. omega arith) t5 in
+        let (block, _) = other-number (λ q. omega arith) t6 in
+        record { some-port = not-less (λ h. ports (inl h)); most-ports = not-less (λ h. ports (inr h)); whole-block = equal (ℕ-discrete _ _) block }
+      where
+        not-less : {x y : ℕ} → (x < y → ⊥) → y ≤ x
+        not-less h = omega arith
+
+        equal : {x y : ℕ} → Dec (x ≡ y) → ((x ≡ y → ⊥) → ⊥) → x ≡ y
+        equal (yes q) h = q
+        equal (no q) h = absurd (h q)
 
     pub as-on-tables : called m st c ≡ tables.called m st (onTables m st c)
     unfolding declined
@@ -184,10 +174,10 @@ module _ (m : ℕ) (st : State) (c : SlotCall) where
     same-sets = ap (λ (r : Stepped). r .answer .sets) as-on-tables
 
   -- the numbers before 6 are those of the call on tables
-  pub first-numbers : (x : ℕ) → (x ≡ 0 → ⊥) → (x ≡ 6 → ⊥) → (x ≡ 7 → ⊥) → (x ≡ 12 → ⊥) → (number m st c ≡ x) ↔ (tables.number m st (onTables m st c) ≡ x)
+  pub first-numbers : (x : ℕ) → (x ≡ 0 → ⊥) → (x ≡ 6 → ⊥) → (x ≡ 7 → ⊥) → (number m st c ≡ x) ↔ (tables.number m st (onTables m st c) ≡ x)
   unfolding declined refusal
-  first-numbers x some six seven twelve = slot-cases (λ r. (r .answer .number ≡ x) ↔ (tables.number m st (onTables m st c) ≡ x)) Iff·rfl
-      (λ y ne why. Iff·trans (λ e. before _ wrong-block no-room (why ∙ e), λ e. sym why ∙ after _ wrong-block no-room e) (Iff·symm (due-exactly m st (onTables m st c) x some twelve)))
+  first-numbers x some six seven = slot-cases (λ r. (r .answer .number ≡ x) ↔ (tables.number m st (onTables m st c) ≡ x)) Iff·rfl
+      (λ y ne why. Iff·trans (λ e. before _ wrong-block no-room (why ∙ e), λ e. sym why ∙ after _ wrong-block no-room e) (Iff·symm (due-exactly m st (onTables m st c) x some)))
     where
       before : (d : ℕ) (f g : Bool) → refused d f g ≡ x → d ≡ x
       before zero true g e = absurd (six (sym e))

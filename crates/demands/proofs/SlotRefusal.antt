@@ -24,10 +24,10 @@ module _ (m : ℕ) (st : State) (c : SlotCall) where
   )
 
   same-three : (number m st c ≡ 3) ↔ (tables.number m st (onTables m st c) ≡ 3)
-  same-three = first-numbers m st c 3 (λ q. omega arith) (λ q. omega arith) (λ q. omega arith) (λ q. omega arith)
+  same-three = first-numbers m st c 3 (λ q. omega arith) (λ q. omega arith) (λ q. omega arith)
 
   same-four : (number m st c ≡ 4) ↔ (tables.number m st (onTables m st c) ≡ 4)
-  same-four = first-numbers m st c 4 (λ q. omega arith) (λ q. omega arith) (λ q. omega arith) (λ q. omega arith)
+  same-four = first-numbers m st c 4 (λ q. omega arith) (λ q. omega arith) (λ q. omega arith)
 
   -- Number 3, exactly: the slot is from 1 to 2147483648 behind the one due.
   pub stale : (number m st c ≡ 3) ↔ (InOrder m st × (1 ≤ behind st (c .slot)) × (behind st (c .slot) ≤ 2 ^ 31))

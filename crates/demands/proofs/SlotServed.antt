@@ -1,7 +1,6 @@
 -- Which slot calls are served, and what a served one does to the state.
-use mathlib.Core.Path.{_≡_, refl, sym, ap, _∙_}
+use mathlib.Core.Path.{_≡_, refl, ap, _∙_}
 use mathlib.Core.Logic.{⊎-elim}
-use mathlib.Core.Bool.{true≢false}
 use Prim.Native.Nat.{ℕ, _*_, _≤_}
 use native.Mathlib.Omega.{arith}
 use lib.ListN.{length}
@@ -12,23 +11,11 @@ use Rattle.ports.specs.declared.answer.Stepped.{Stepped}
 use Rattle.lcf.specs.Advance.{advance}
 use Rattle.demands.specs.Refusal.{InOrder}
 use Rattle.demands.specs.SlotCall.{SlotCall, next, number, onTables}
-use Rattle.demands.specs.Numbers.{WrongLimit, Stuck, Row, given, passed}
+use Rattle.demands.specs.Numbers.{WrongLimit, passed}
 use Rattle.demands.proofs.Calls.{served-call}
-use Rattle.demands.proofs.Progress.{never-stuck}
-use Rattle.demands.proofs.SlotCalls.{number-by-table, request-rows, taken, as-on-tables, same-number}
+use Rattle.demands.proofs.SlotCalls.{number-by-table, as-on-tables, same-number}
 
 module _ (m : ℕ) (st : State) (c : SlotCall) where
-  never-stuck-here : st .ports ≤ m → Stuck m st c → ⊥
-  never-stuck-here ports stuck = true≢false (sym stuck ∙ never-stuck st (c .mode) (onTables m st c .req) (onTables m st c .pre) (rw (request-rows m st c) ports))
-
-  -- No call is given 12: a round with a live request joins somebody.
-  pub never-twelve : number m st c ≡ 12 → ⊥
-  never-twelve e = let (block, row) = taken m st c 12 (λ h l. omega arith) e in last (block .most-ports) row
-    where
-      last : st .ports ≤ m → Row 12 (Stuck m st c) (λ x. x ≡ 0) 12 → ⊥
-      last ports (given stuck e) = never-stuck-here ports stuck
-      last ports (passed free e) = omega arith
-
   -- A call in order is served: the slot is the one due, limit, block and output are as they must be.
   pub served-in-order : InOrder m st → c .slot ≡ st .due → (WrongLimit m (c .mode) → ⊥) → length (c .block) ≡ st .ports * frameLen (st .ports)
       → st .ports * toldLen (st .ports) ≤ length (c .out) → number m st c ≡ 0
@@ -42,8 +29,7 @@ module _ (m : ℕ) (st : State) (c : SlotCall) where
       (passed (λ h. omega arith)
       (passed limit
       (passed (λ other. other block)
-      (passed (λ h. omega arith)
-      (passed (never-stuck-here (o .most-ports)) refl))))))))
+      (passed (λ h. omega arith) refl)))))))
     where
       on-time : (slot : ℕ) → slot ≡ st .due → behind st slot ≡ 0
       on-time slot e = omega arith

@@ -24,14 +24,14 @@ use Rattle.demands.proofs.Keeps.{planned-keeps}
 
 -- ---- rows and bits at or above n are ignored
 
-within-asks : (n : ℕ) (rows : List ℕ) (i t : ℕ) → asks (within n rows) i t ≡ true → (i < n) × (t < n) × (asks rows i t ≡ true)
+pub within-asks : (n : ℕ) (rows : List ℕ) (i t : ℕ) → asks (within n rows) i t ≡ true → (i < n) × (t < n) × (asks rows i t ≡ true)
 unfolding within
 within-asks n rows i t e =
     let (i<, h) = tabled-asks (length rows) (λ i. getD rows i 0 % 2 ^ n) n i t e in
     let (t<, a) = below-has (getD rows i 0) n t h in
     (i<, t<, a)
 
-asks-within : (n : ℕ) (rows : List ℕ) (i t : ℕ) → i < n → t < n → asks rows i t ≡ true → asks (within n rows) i t ≡ true
+pub asks-within : (n : ℕ) (rows : List ℕ) (i t : ℕ) → i < n → t < n → asks rows i t ≡ true → asks (within n rows) i t ≡ true
 unfolding within
 asks-within n rows i t i< t< a = ap (λ s. has s t) (row-tabled (length rows) (λ i. getD rows i 0 % 2 ^ n) n i i< (asks-row rows i t a))
     ∙ has-below (getD rows i 0) n t t< ∙ a

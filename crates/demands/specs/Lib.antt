@@ -12,6 +12,7 @@ pub mod Share
 pub mod Origin
 pub mod Choice
 pub mod Rounds
+pub mod Progress
 pub mod Refusal
 -- any kind of call
 pub mod History

@@ -1,7 +1,6 @@
 -- The table of document 01: the numbers of a slot call, in the order in which they are tested.
 use mathlib.Core.Path.{_≡_}
 use mathlib.Core.Logic.{_⊎_}
-use mathlib.Core.Bool.{true}
 use Prim.Native.Nat.{ℕ, _*_, _^_, _≤_, _<_}
 use lib.ListN.{length}
 use Rattle.frames.specs.Part.{frameLen, toldLen}
@@ -9,17 +8,12 @@ use Rattle.ports.specs.Due.{behind}
 use Rattle.ports.specs.declared.state.State.{State}
 use Rattle.ports.specs.declared.state.Mode.{Mode}
 use Rattle.ports.specs.declared.state.Mode.the-variants.{Central, Distributed}
-use Rattle.lcf.specs.Slot.{matched}
-use Rattle.demands.specs.SlotCall.{SlotCall, onTables}
+use Rattle.demands.specs.SlotCall.{SlotCall}
 
 -- the round limit is outside 1 to m
 abbrev pub WrongLimit : ℕ → Mode → Type 0
 WrongLimit m Central = ⊥
 WrongLimit m (Distributed limit) = (limit < 1) ⊎ (m < limit)
-
--- a round with a live request joined nobody
-abbrev pub Stuck : ℕ → State → SlotCall → Type 0
-Stuck m st c = matched st (c .mode) (onTables m st c .req) (onTables m st c .pre) .stuck ≡ true
 
 -- one row: x is its number where it applies, and otherwise what the rows below it say
 pub data Row (number : ℕ) (applies : Type 0) (below : ℕ → Type 0) (x : ℕ) : Type 0 where
@@ -36,5 +30,4 @@ Table m st c =
     (Row 5 (WrongLimit m (c .mode))
     (Row 6 (length (c .block) ≡ st .ports * frameLen (st .ports) → ⊥)
     (Row 7 (length (c .out) < st .ports * toldLen (st .ports))
-    (Row 12 (Stuck m st c)
-    (λ x. x ≡ 0))))))))
+    (λ x. x ≡ 0)))))))

@@ -24,7 +24,7 @@ pub record SomeLive (n : ℕ) (live : List ℕ) : Type 0 where
 
 -- what r rounds make of the work s
 abbrev pub afterRounds : State → Work → ℕ → Work
-afterRounds st = steps (λ k s. round st s .work)
+afterRounds st = steps (λ k. round st)
 
 -- r rounds are run on s: each begins with a live request, the limit allows them, and they stop at the limit or when no live request remains
 pub record RoundsRun (st : State) (limit : ℕ) (s : Work) (r : ℕ) : Type 0 where
@@ -32,13 +32,14 @@ pub record RoundsRun (st : State) (limit : ℕ) (s : Work) (r : ℕ) : Type 0 wh
   pub allowed : r ≤ limit
   pub stopped : (r ≡ limit) ⊎ (SomeLive (st .ports) (afterRounds st s r .live) → ⊥)
 
--- a slot has r rounds and ends with these sets, s being the work after the planned stage: the central form has no round, and the rounds of the
--- distributed form follow the favoured pair
+-- the favoured pair comes before the rounds
+abbrev pub begun : State → Work → Work
+begun st s = joinLive s (st .initiator .0) (st .target .0)
+
+-- a slot has r rounds and ends with these sets, s being the work after the planned stage: the central form has no round
 abbrev pub RoundsOf : State → Mode → Work → ℕ → List ℕ → Type 0
 RoundsOf st Central s r sets = r ≡ 0
-RoundsOf st (Distributed limit) s r sets =
-    let begun = joinLive s (st .initiator .0) (st .target .0) in
-    RoundsRun st limit begun r × (sets ≡ afterRounds st begun r .held)
+RoundsOf st (Distributed limit) s r sets = RoundsRun st limit (begun st s) r × (sets ≡ afterRounds st (begun st s) r .held)
 
 -- the slot call c has r rounds
 abbrev pub HasRounds : ℕ → State → SlotCall → ℕ → Type 0

@@ -1,9 +1,10 @@
--- What a tally says: none, at most one, and no more than were looked at.
-use mathlib.Core.Path.{_≡_, refl, sym, _∙_}
+-- What a tally says: none, at most one, no more than were looked at, and fewer than another.
+use mathlib.Core.Path.{_≡_, refl, sym, subst, _∙_}
 use mathlib.Core.Logic.{_↔_, ⊎-elim}
 use mathlib.Core.Bool.{Bool, true, false, cond, true≢false}
 use Prim.Native.Nat.{ℕ, zero, suc, _≤_, _<_}
 use native.Mathlib.Nat.{le-of-suc-le-suc, eq-or-lt-of-le, not-suc-le-zero}
+use native.Mathlib.Decide.{ℕ-discrete}
 use native.Mathlib.Omega.{arith}
 use Rattle.laws.specs.Steps.{steps}
 use Rattle.laws.specs.Sets.{tally}
@@ -19,7 +20,7 @@ module _ (p : ℕ → Bool) where
       go true h = omega arith
       go false h = omega arith
 
-  tally-none : (n : ℕ) → tally p n ≡ 0 → (h : ℕ) → h < n → p h ≡ false
+  pub tally-none : (n : ℕ) → tally p n ≡ 0 → (h : ℕ) → h < n → p h ≡ false
   unfolding steps
   tally-none zero e h l = absurd (not-suc-le-zero l)
   tally-none (suc n) e h l = go (p n) refl e (tally-none n)
@@ -57,3 +58,32 @@ module _ (p : ℕ → Bool) where
         λ e g h gl hl a b. r .0 e g h (earlier g gl a q) (earlier h hl b q) a b,
         λ f. r .1 (λ g h gl hl. f g h (omega arith) (omega arith)),
       )
+
+-- whatever has q has p
+module _ (p q : ℕ → Bool) (too : (k : ℕ) → q k ≡ true → p k ≡ true) where
+  tally-less : (n : ℕ) → tally q n ≤ tally p n
+  unfolding steps
+  tally-less zero = omega arith
+  tally-less (suc n) = go (p n) (q n) (too n) (tally-less n)
+    where
+      go : (a b : Bool) → (b ≡ true → a ≡ true) → tally q n ≤ tally p n → cond b (suc (tally q n)) (tally q n) ≤ cond a (suc (tally p n)) (tally p n)
+      go true true f h = omega arith
+      go true false f h = omega arith
+      go false true f h = absurd (true≢false (sym (f refl)))
+      go false false f h = h
+
+  -- and one has p alone
+  pub tally-fewer : (n g : ℕ) → g < n → p g ≡ true → q g ≡ false → tally q n < tally p n
+  unfolding steps
+  tally-fewer zero g l here gone = absurd (not-suc-le-zero l)
+  tally-fewer (suc n) g l here gone = go (ℕ-discrete g n) (λ h. tally-fewer n g h here gone)
+    where
+      last : (a b : Bool) → (b ≡ true → a ≡ true) → tally q n < tally p n → cond b (suc (tally q n)) (tally q n) < cond a (suc (tally p n)) (tally p n)
+      last true true f h = omega arith
+      last true false f h = omega arith
+      last false true f h = absurd (true≢false (sym (f refl)))
+      last false false f h = h
+
+      go : Dec (g ≡ n) → (g < n → tally q n < tally p n) → tally q (suc n) < tally p (suc n)
+      go (yes e) before = subst (λ (k : ℕ). tally q (suc k) < tally p (suc k)) e (rw (here, gone) (omega (arith, tally-less g)))
+      go (no e) before = last (p n) (q n) (too n) (before (omega arith))

@@ -17,7 +17,7 @@ use Rattle.ports.specs.declared.state.State.{State}
 use Rattle.lcf.specs.Central.{fewest}
 use Rattle.lcf.specs.Distributed.{askers, grants, offers, accepted, answer, answered}
 use Rattle.lcf.specs.Offers.{granted, offer, offering, Offers, accept}
-use Rattle.lcf.specs.declared.work.Round.{Round}
+use Rattle.lcf.specs.declared.work.Work.{Work}
 
 -- an offer to g reaches row i if g is i
 reaches : (rows live : List ℕ) (g i t : ℕ) {s : ℕ} → i < length rows → getD rows i 0 ≡ s
@@ -55,7 +55,7 @@ module _ (st : State) (live : List ℕ) (h : st .ports ≤ length live) where
       ap (λ u. getD u i 0) (done _ _ (st .ports) k (rw (q, c, z, ← p) at e) l g) ∙ made i (st .ports) hi (omega arith)
 
 -- every initiator has answered
-pub all-answered : (st : State) (live offered counts : List ℕ) (k : ℕ) (x : Round) {u : Round} → Offers st live offered → counts ≡ sizes (askers st live)
+pub all-answered : (st : State) (live offered counts : List ℕ) (k : ℕ) (x : Work) {u : Work} → Offers st live offered → counts ≡ sizes (askers st live)
     → u ≡ steps (λ i. accept st counts (getD offered i 0) i) x k → k ≤ st .ports → st .ports ≤ k → u ≡ answered st live (askers st live) (grants st live) x (st .ports)
 unfolding accept answer accepted
 all-answered st live offered counts k x o c e l g = done _ _ (st .ports) k e l g ∙ same-steps _ _ x (st .ports) (λ i r b. rw (c, o i b))

@@ -1,6 +1,6 @@
 -- Rule 6, the distributed form (section 5 of the report). A round goes by the requests live at its start.
 use Prim.Native.Nat.{ℕ, _+_}
-use mathlib.Core.Bool.{Bool, true, false, not, _&&_, _||_, cond}
+use mathlib.Core.Bool.{Bool, false, not, _&&_, _||_, cond}
 use mathlib.Core.List.{List}
 use lib.Dec.{eqb}
 use lib.ListN.{length, getD}
@@ -11,7 +11,6 @@ use Rattle.lcf.specs.Choice.{turned, choice}
 use Rattle.lcf.specs.Join.{join, joinLive}
 use Rattle.lcf.specs.Central.{fewest}
 use Rattle.lcf.specs.declared.work.Work.{Work}
-use Rattle.lcf.specs.declared.work.Round.{Round}
 use Rattle.lcf.specs.declared.work.Run.{Run}
 
 -- the initiators asking each target
@@ -31,29 +30,26 @@ unfoldable pub accepted : State → List ℕ → ℕ → ℕ → ℕ
 accepted st asked offer i = choice (has offer) (λ t. getD (sizes asked) t 0) (st .ports) (turned (st .ports) (st .target .0) i (st .initiator .0))
 
 -- initiator i is joined to the target that it accepts
-unfoldable pub answer : State → List ℕ → List ℕ → List ℕ → ℕ → Round → Round
-answer st live asked grant i r =
+unfoldable pub answer : State → List ℕ → List ℕ → List ℕ → ℕ → Work → Work
+answer st live asked grant i s =
     let offer = offers st live grant i in
     let t = accepted st asked offer i in
-    cond (has offer t) (record { work = join (r .work) i t; joined = true }) r
+    cond (has offer t) (join s i t) s
 
 -- the first k initiators have answered
-abbrev pub answered : State → List ℕ → List ℕ → List ℕ → Round → ℕ → Round
+abbrev pub answered : State → List ℕ → List ℕ → List ℕ → Work → ℕ → Work
 answered st live asked grant = steps (answer st live asked grant)
 
-unfoldable pub round : State → Work → Round
-round st s = answered st (s .live) (askers st (s .live)) (grants st (s .live)) (record { work = s; joined = false }) (st .ports)
+unfoldable pub round : State → Work → Work
+round st s = answered st (s .live) (askers st (s .live)) (grants st (s .live)) s (st .ports)
 
 -- a request of the first k initiators is live
 abbrev pub anyLive : List ℕ → ℕ → Bool
 anyLive live = steps (λ i found. not (eqb (getD live i 0) 0) || found) false
 
--- one more round, while a live request remains; a round that joins nobody is the last (number 12)
+-- one more round, while a live request remains
 unfoldable pub oneMore : State → Run → Run
-oneMore st r =
-    cond (anyLive (r .work .live) (st .ports) && not (r .stuck))
-    (let after = round st (r .work) in record { work = after .work; rounds = r .rounds + 1; stuck = not (after .joined) })
-    r
+oneMore st r = cond (anyLive (r .work .live) (st .ports)) (record { work = round st (r .work); rounds = r .rounds + 1 }) r
 
 -- at most k rounds
 abbrev pub rounds : State → Run → ℕ → Run
@@ -61,4 +57,4 @@ rounds st = steps (λ k. oneMore st)
 
 -- the favoured pair first, then the rounds that the limit allows
 unfoldable pub distributed : State → ℕ → Work → Run
-distributed st limit s = rounds st (record { work = joinLive s (st .initiator .0) (st .target .0); rounds = 0; stuck = false }) limit
+distributed st limit s = rounds st (record { work = joinLive s (st .initiator .0) (st .target .0); rounds = 0 }) limit

@@ -1,7 +1,7 @@
 -- A round of rule 6 by its tables: each target's askers, and the targets that offer themselves to each initiator.
 use Prim.Native.Nat.{ℕ, _<_}
 use mathlib.Core.Path.{_≡_}
-use mathlib.Core.Bool.{true, cond}
+use mathlib.Core.Bool.{cond}
 use mathlib.Core.List.{List}
 use lib.ListN.{getD, set}
 use Rattle.laws.specs.Steps.{steps}
@@ -10,7 +10,7 @@ use Rattle.ports.specs.declared.state.State.{State}
 use Rattle.lcf.specs.Choice.{turned, choice}
 use Rattle.lcf.specs.Join.{join}
 use Rattle.lcf.specs.Distributed.{grants, offers}
-use Rattle.lcf.specs.declared.work.Round.{Round}
+use Rattle.lcf.specs.declared.work.Work.{Work}
 
 -- whom target t grants, of those asking it, by how many each asks
 abbrev pub granted : State → ℕ → List ℕ → ℕ → ℕ
@@ -31,7 +31,7 @@ abbrev pub Offers : State → List ℕ → List ℕ → Type 0
 Offers st live offered = (i : ℕ) → i < st .ports → getD offered i 0 ≡ offers st live (grants st live) i
 
 -- initiator i accepts one of those offered, by the targets' numbers of askers
-unfoldable pub accept : State → List ℕ → ℕ → ℕ → Round → Round
-accept st counts offered i r =
+unfoldable pub accept : State → List ℕ → ℕ → ℕ → Work → Work
+accept st counts offered i s =
     let t = choice (has offered) (λ t. getD counts t 0) (st .ports) (turned (st .ports) (st .target .0) i (st .initiator .0)) in
-    cond (has offered t) (record { work = join (r .work) i t; joined = true }) r
+    cond (has offered t) (join s i t) s

@@ -1,6 +1,6 @@
--- One slot on tables: rules 3 to 7, and number 12.
+-- One slot on tables: rules 3 to 7.
 use Prim.Native.Nat.{ℕ}
-use mathlib.Core.Bool.{false, cond}
+use mathlib.Core.Bool.{cond}
 use mathlib.Core.List.{List}
 use lib.Dec.{eqb}
 use Rattle.ports.specs.Due.{dueNumber, declined}
@@ -17,20 +17,20 @@ use Rattle.lcf.specs.declared.work.Run.{Run}
 
 -- rules 5 and 6
 unfoldable pub serveMode : State → Mode → Work → Run
-serveMode st Central s = record { work = central st s (st .ports); rounds = 0; stuck = false }
+serveMode st Central s = record { work = central st s (st .ports); rounds = 0 }
 serveMode st (Distributed limit) s = distributed st limit s
 
 unfoldable pub matched : State → Mode → List ℕ → List ℕ → Run
 matched st mode req pre = serveMode st mode (start st req pre)
 
--- a slot that was run: number 12 if a round joined nobody, and otherwise what was matched
-unfoldable pub ended : ℕ → State → Run → Stepped
-ended m st r = cond (r .stuck) (declined m st 12) (record { state = advance st; answer = record { number = 0; rounds = r .rounds; sets = r .work .held } })
+-- a slot that was run: the next state, and what was matched
+unfoldable pub ended : State → Run → Stepped
+ended st r = record { state = advance st; answer = record { number = 0; rounds = r .rounds; sets = r .work .held } }
 
 -- the call on tables
 unfoldable pub slotOnTables : ℕ → State → ℕ → Mode → List ℕ → List ℕ → Stepped
 slotOnTables m st slot mode req pre =
-    cond (eqb (dueNumber m st slot mode) 0) (ended m st (matched st mode req pre)) (declined m st (dueNumber m st slot mode))
+    cond (eqb (dueNumber m st slot mode) 0) (ended st (matched st mode req pre)) (declined m st (dueNumber m st slot mode))
 
 -- the state, and one of a single port where 1 or 2 declines it
 unfoldable pub orderly : ℕ → State → State
@@ -43,4 +43,4 @@ startDue m st = start (orderly m st)
 
 unfoldable pub finishDue : ℕ → State → Mode → Work → Stepped
 finishDue m st mode s =
-    cond (eqb (dueNumber m st (st .due) mode) 0) (ended m st (serveMode st mode s)) (declined m st (dueNumber m st (st .due) mode))
+    cond (eqb (dueNumber m st (st .due) mode) 0) (ended st (serveMode st mode s)) (declined m st (dueNumber m st (st .due) mode))

@@ -8,7 +8,6 @@ use crate::sets::column;
 use crate::sets::full;
 use crate::sets::gather;
 use crate::sets::sizes;
-use crate::work::Round;
 use crate::work::Run;
 use crate::work::Work;
 use ports::Initiator;
@@ -18,7 +17,6 @@ use ports::Table;
 use ports::Target;
 use words::holds;
 ghost use mathlib.Core.Path.{_≡_};
-ghost use mathlib.Core.Bool.{not, _&&_};
 ghost use Prim.Native.Nat.{_+_, _<_, _≤_};
 ghost use Rattle.frames.specs.Part.{mostPorts};
 ghost use Rattle.ports.specs.Ready.{Ready};
@@ -63,35 +61,28 @@ fn offers(state: State, live: &Table, asked: &Table) -> Table
     offered
 }
 
-fn accept(state: State, counts: &Counts, offered: Set, i: Initiator, current: Round) -> Round
+fn accept(state: State, counts: &Counts, offered: Set, i: Initiator, work: Work) -> Work
     requires { ⌜ (Ready mostPorts state) × (i .0 < state .ports) ⌝ }
-    ensures { λ r. ⌜ r ≡ accept state (now (counts .entry)) offered (i .0) current ⌝ }
+    ensures { λ r. ⌜ r ≡ accept state (now (counts .entry)) offered (i .0) work ⌝ }
 {
     let from = first_target(state, i);
     let t = Target(choose(offered, counts, state.ports, from.0));
     if holds(offered, t.0) {
-        let work = current.work;
-        Round {
-            work: join(work, i, t),
-            joined: true,
-        }
+        join(work, i, t)
     } else {
-        current
+        work
     }
 }
 
 // All goes by the requests as the round began: what they say is read before the first pair is joined.
-fn round(state: State, work: Work) -> Round
+fn round(state: State, work: Work) -> Work
     requires { ⌜ Ready mostPorts state ⌝ }
     ensures { λ r. ⌜ r ≡ round state work ⌝ }
 {
     let n = state.ports;
-    let mut current = Round {
-        work,
-        joined: false,
-    };
-    let asked = askers(state, &current.work.live);
-    let offered = offers(state, &current.work.live, &asked);
+    let mut current = work;
+    let asked = askers(state, &current.live);
+    let offered = offers(state, &current.live, &asked);
     let counts = sizes(&asked);
     for i in 0..n {
         current = accept(state, &counts, offered[i], Initiator(i), current);
@@ -110,28 +101,16 @@ pub(crate) fn any_live(live: Table, n: usize) -> bool
     found
 }
 
-// A live request remains, and no round has joined nobody.
-fn goes_on(state: State, run: Run) -> bool
-    requires { ⌜ Ready mostPorts state ⌝ }
-    ensures { λ r. ⌜ r ≡ (anyLive (run .work .live) (state .ports) && not (run .stuck)) ⌝ }
-{
-    let work = run.work;
-    let live = work.live;
-    any_live(live, state.ports) & !run.stuck
-}
-
 fn one_more(state: State, run: Run) -> Run
     requires { ⌜ (Ready mostPorts state) × (run .rounds < mostPorts) ⌝ }
     ensures { λ r. ⌜ (r ≡ oneMore state run) × (r .rounds ≤ run .rounds + 1) ⌝ }
 {
-    if goes_on(state, run) {
-        let work = run.work;
-        let after = round(state, work);
-        let work = after.work;
+    let work = run.work;
+    let live = work.live;
+    if any_live(live, state.ports) {
         Run {
-            work,
+            work: round(state, work),
             rounds: run.rounds + 1,
-            stuck: !after.joined,
         }
     } else {
         run
@@ -159,7 +138,6 @@ pub(crate) fn distributed(state: State, limit: u32, work: Work) -> Run
     let mut run = Run {
         work: favoured(state, work),
         rounds: 0,
-        stuck: false,
     };
     for k in 0..limit {
         run = one_more(state, run);

@@ -1,4 +1,4 @@
-// One slot on tables: rules 3 to 7, and number 12.
+// One slot on tables: rules 3 to 7.
 use crate::central::central;
 use crate::choice::wrapped;
 use crate::distributed::distributed;
@@ -70,7 +70,6 @@ fn serve_mode(state: State, mode: Mode, work: Work) -> Run
         Mode::Central => Run {
             work: central(state, work),
             rounds: 0,
-            stuck: false,
         },
         Mode::Distributed(limit) => distributed(state, limit, work),
     }
@@ -78,11 +77,8 @@ fn serve_mode(state: State, mode: Mode, work: Work) -> Run
 
 fn ended(state: State, run: Run) -> Stepped
     requires { ⌜ Ready mostPorts state ⌝ }
-    ensures { λ r. ⌜ r ≡ ended mostPorts state run ⌝ }
+    ensures { λ r. ⌜ r ≡ ended state run ⌝ }
 {
-    if run.stuck {
-        return declined(state, 12);
-    }
     let work = run.work;
     let sets = work.held;
     Stepped {
@@ -98,7 +94,7 @@ fn ended(state: State, run: Run) -> Stepped
 // Rules 5 to 7.
 fn finish(state: State, mode: Mode, work: Work) -> Stepped
     requires { ⌜ (Ready mostPorts state) × (wrongLimit mostPorts mode ≡ false) ⌝ }
-    ensures { λ r. ⌜ r ≡ ended mostPorts state (serveMode state mode work) ⌝ }
+    ensures { λ r. ⌜ r ≡ ended state (serveMode state mode work) ⌝ }
 {
     ended(state, serve_mode(state, mode, work))
 }

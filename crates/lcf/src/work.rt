@@ -7,15 +7,8 @@ pub struct Work {
     pub held: Table,
 }
 
-// A round of the distributed form as it goes, and whether it has joined a pair.
-pub struct Round {
-    pub work: Work,
-    pub joined: bool,
-}
-
-// Rounds so far; stuck is a round with a live request that joined nobody.
+// And the rounds so far.
 pub struct Run {
     pub work: Work,
     pub rounds: u8,
-    pub stuck: bool,
 }

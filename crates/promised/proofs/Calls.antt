@@ -33,14 +33,14 @@ use Rattle.promised.specs.Demanded.{Served}
 use Rattle.promised.proofs.States.{front, valid-fits}
 use Rattle.promised.proofs.Tables.{holds-asks}
 
--- no number of the table is above 12
-row-most : {k : ℕ} {applies : Type 0} {below : ℕ → Type 0} → k ≤ 12 → ((x : ℕ) → below x → x ≤ 12) → (x : ℕ) → Row k applies below x → x ≤ 12
+-- no number of the table is above 7
+row-most : {k : ℕ} {applies : Type 0} {below : ℕ → Type 0} → k ≤ 7 → ((x : ℕ) → below x → x ≤ 7) → (x : ℕ) → Row k applies below x → x ≤ 7
 row-most most rest x (given a e) = omega arith
 row-most most rest x (passed n r) = rest x r
 
-number-most : (m : ℕ) (st : State) (c : frames.SlotCall) → frames.number m st c ≤ 12
+number-most : (m : ℕ) (st : State) (c : frames.SlotCall) → frames.number m st c ≤ 7
 number-most m st c =
-    row-most (lit≤ tt) (row-most (lit≤ tt) (row-most (lit≤ tt) (row-most (lit≤ tt) (row-most (lit≤ tt) (row-most (lit≤ tt) (row-most (lit≤ tt) (row-most (lit≤ tt) (λ x e. omega arith))))))))
+    row-most (lit≤ tt) (row-most (lit≤ tt) (row-most (lit≤ tt) (row-most (lit≤ tt) (row-most (lit≤ tt) (row-most (lit≤ tt) (row-most (lit≤ tt) (λ x e. omega arith)))))))
     _ (number-by-table m st c (frames.number m st c) .0 refl)
 
 module _ (m : ℕ) (state : List ℕ) (d : CCall) where

@@ -1,4 +1,4 @@
--- The three ends of a slot: declined before it is run, run and declined with 12, and served.
+-- The two ends of a slot: declined, and served.
 use mathlib.Core.Path.{_≡_, refl, sym, ap, _∙_}
 use mathlib.Core.List.{List}
 use Prim.Native.Nat.{ℕ}
@@ -7,7 +7,7 @@ use Rattle.ports.specs.Due.{declined}
 use Rattle.ports.specs.declared.state.State.{State}
 use Rattle.ports.specs.declared.state.Mode.{Mode}
 use Rattle.ports.specs.declared.answer.Stepped.{Stepped}
-use Rattle.lcf.specs.Slot.{finishDue}
+use Rattle.lcf.specs.Slot.{ended, slotOnTables, finishDue}
 use Rattle.lcf.proofs.Slots.{in-two}
 use Rattle.shelf.specs.Hosts.{hostsOf}
 use Rattle.shelf.specs.Grants.{granted}
@@ -27,15 +27,16 @@ module _ (m : ℕ) (st : State) (slot : ℕ) (mode : Mode) (block : List ℕ) (l
     unfolding stepped slotOnHosts begunOf
     ran = rw (← is, eq-eqb number 0 none) (run ∙ ap (λ (b : Begun). finishDue m st mode (b .work)) is-begun ∙ in-two m st slot mode _ _ (taken m st slot mode block out (sym is ∙ none) .due))
 
-    pub stuck : (r .answer .number ≡ 0 → ⊥) → (r ≡ stepped m st slot mode block out) × (out ≡ output m st slot mode block link out)
-    unfolding output
-    stuck some = (ran, rw (← ran, ne-eqb _ 0 some))
+    -- a slot that is run is served
+    done : r .answer .number ≡ 0
+    unfolding stepped slotOnHosts slotOnTables ended
+    done = ap (λ (r : Stepped). r .answer .number) ran ∙ rw (← is, eq-eqb number 0 none, taken m st slot mode block out (sym is ∙ none) .due)
 
     who : begun .heard ≡ hostsOf m (st .ports) block .heard
     unfolding begunOf
     who = ap (λ (b : Begun). b .heard) is-begun
 
-    pub served : (last : List ℕ) → r .answer .number ≡ 0 → last ≡ granted (st .ports) (begun .heard) link (r .answer .sets) out
+    pub served : (last : List ℕ) → last ≡ granted (st .ports) (begun .heard) link (r .answer .sets) out
         → (r ≡ stepped m st slot mode block out) × (last ≡ output m st slot mode block link out)
     unfolding output
-    served last done e = (ran, rw (← ran, eq-eqb _ 0 done, ← who) e)
+    served last e = (ran, rw (← ran, eq-eqb _ 0 done, ← who) e)

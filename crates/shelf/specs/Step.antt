@@ -1,4 +1,4 @@
--- One slot on frames: rules 1 to 7, and the numbers 1 to 7 and 12.
+-- One slot on frames: rules 1 to 7, and the numbers 1 to 7.
 use Prim.Native.Nat.{ℕ, _*_}
 use mathlib.Core.Bool.{cond}
 use mathlib.Core.List.{List}

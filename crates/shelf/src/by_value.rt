@@ -75,9 +75,6 @@ pub fn step(state: State, slot: u32, mode: Mode, block: &[u8], link: Set, out: &
     let stepped = lcf::finish_due(state, mode, work);
     let answer = stepped.answer;
     let sets = answer.sets;
-    if answer.number != 0 {
-        return stepped;
-    }
     write_grants(state.ports, begun.heard, link, sets, out);
     stepped
 }

@@ -8,5 +8,5 @@ unfolding accept
 accept-spec =
     tie.close
     (tie.spec (λ c κs. search needs) (λ c κs. search needs) (λ c κs. search needs) (λ c κs. search needs)
-    (λ c. rw (← c .before .before .before .before .before .first-target .ensures .0, ← c .before .before .before .before .choose .ensures .0, ← c .before .before .before .holds .ensures, c .before .before .if1 .taken, ← c .join .ensures))
+    (λ c. rw (← c .before .before .before .before .first-target .ensures .0, ← c .before .before .before .choose .ensures .0, ← c .before .before .holds .ensures, c .before .if1 .taken, ← c .join .ensures))
     (λ c. rw (← c .before .before .before .first-target .ensures .0, ← c .before .before .choose .ensures .0, ← c .before .holds .ensures, c .if1 .left)))

@@ -8,5 +8,5 @@ unfolding oneMore
 one-more-spec =
     tie.close
     (tie.spec (λ c κs. search needs) (λ c κs. search needs) (λ c. search needs)
-    (λ c. (rw (← c .before .before .before .before .before .before .goes-on .ensures, c .before .before .before .before .before .if1 .taken, ← c .before .before .before .round .ensures), search needs))
-    (λ c. (rw (← c .before .goes-on .ensures, c .if1 .left), search needs)))
+    (λ c. (rw (← c .before .before .before .any-live .ensures, c .before .before .if1 .taken, ← c .before .round .ensures), search needs))
+    (λ c. (rw (← c .before .any-live .ensures, c .if1 .left), search needs)))

@@ -7,5 +7,4 @@ pub ended-spec : {M : Type 1} → statement M
 unfolding ended
 ended-spec =
     tie.close
-    (tie.spec (λ c κs. search needs) (λ c. rw (c .before .if1 .taken) (c .declined .ensures)) (λ c κs. search needs)
-    (λ c. rw (c .before .before .before .if1 .left, c .advance .ensures)))
+    (tie.spec (λ c κs. search needs) (λ c. rw (c .advance .ensures)))
