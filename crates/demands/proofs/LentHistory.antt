@@ -8,9 +8,10 @@ use borrow.Author.Tests.{eq-eqb, eqb-true, eqb-false}
 use Rattle.frames.specs.Part.{mostPorts}
 use Rattle.ports.specs.declared.state.State.{State}
 use Rattle.ports.specs.declared.answer.Answer.{Answer}
-use Rattle.demands.specs.History.{Below, after, howMany, InEach, InServed, quota, Moves, Fair}
+use Rattle.demands.specs.History.{Below, after, howMany, InEach, InServed, quota, ByValue, Moves, Fair}
 use Rattle.demands.specs.Refusal.{Valid}
 use Rattle.demands.specs.SlotCall as slots
+use Rattle.demands.specs.SlotShare as share
 use Rattle.demands.specs.LentCall.{LentCall, Kept, next, served, connects, Waiting, Demanded}
 use Rattle.demands.proofs.Turns.{fair-share}
 use Rattle.demands.proofs.Histories.{throughout}
@@ -52,18 +53,21 @@ lent-moves m = record {
   served-advances = λ st d lent e. lent .moved ∙ served-advances m st (d .call) (served-there lent (eqb-true _ 0 e));
 }
 
-lent-fair : (m : ℕ) → m ≤ mostPorts → (i t : ℕ) → Fair (λ st. st) (Kept m) next served (connects i t) (Waiting i t) i t
-lent-fair m most i t = record {
+-- whom slot calls are fair to, lent calls are
+pub lent-fair : (m i t : ℕ) {Waits : State → slots.SlotCall → Type 0} {Favours : State → Type 0}
+    → Fair (λ st. st) ByValue (slots.next m) (slots.served m) (share.connects m i t) Waits Favours
+    → Fair (λ st. st) (Kept m) next served (connects i t) (λ st d. Waits st (d .call)) Favours
+lent-fair m i t fair = record {
   moves = lent-moves m;
-  favours = λ st d lent e w ei et.
-      rw (lent .answered, lent .granted) (slots-fair m most i t .favours st (d .call) tt (eq-eqb _ 0 (served-there lent (eqb-true _ 0 e))) w ei et);
+  favours = λ st d lent e w f.
+      rw (lent .answered, lent .granted) (fair .favours st (d .call) tt (eq-eqb _ 0 (served-there lent (eqb-true _ 0 e))) w f);
 }
 
 module _ (m : ℕ) (st : State) (calls : List LentCall) (kept : InEach next (Kept m) st calls) where
   -- Of W served calls, in each of which the pair (i, t) waits, W / n² or more connect it, in their answers and in the lent outputs.
   pub lent-share : m ≤ mostPorts → (i t : ℕ) → Below st → i < st .ports → t < st .ports → InServed next served (Waiting i t) st calls
       → quota (st .ports) (howMany next served st calls) ≤ howMany next (connects i t) st calls
-  lent-share most i t = fair-share (lent-fair m most i t) st calls kept
+  lent-share most i t = fair-share (lent-fair m i t (slots-fair m most i t)) st calls kept
 
   -- Each call of a history that begins at a valid state is as it is demanded.
   pub lent-throughout : Valid m st → InEach next (Demanded m) st calls

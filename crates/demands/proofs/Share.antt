@@ -15,7 +15,7 @@ use Rattle.lcf.specs.Slot.{matched}
 use Rattle.lcf.specs.declared.work.Work.{Work}
 use Rattle.demands.specs.Origin.{Live, Alone}
 use Rattle.demands.specs.Call.{Call, next, sets, served}
-use Rattle.demands.specs.History.{Below, howMany, InServed, quota, ByValue, Moves, Fair}
+use Rattle.demands.specs.History.{Below, howMany, InServed, quota, ByValue, Moves, First, Fair}
 use Rattle.demands.specs.Share.{connects, Waits, Waiting}
 use Rattle.demands.proofs.Connections.{nothing-from-nowhere}
 use Rattle.demands.proofs.Join.{held-still, held-now}
@@ -62,10 +62,10 @@ tables-move m = record {
   served-advances = λ st c k e. served-call m st c (eqb-true _ 0 e) .advances;
 }
 
-pub tables-fair : (m i t : ℕ) → Fair (λ st. st) ByValue (next m) (served m) (connects m i t) (Waiting i t) i t
+pub tables-fair : (m i t : ℕ) → Fair (λ st. st) ByValue (next m) (served m) (connects m i t) (Waiting i t) (First i t)
 tables-fair m i t = record {
   moves = tables-move m;
-  favours = λ st c k e w ei et.
+  favours = λ st c k e w (ei, et).
       let r = served-call m st c (eqb-true _ 0 e) in
       let hit = favoured st (c .mode) (c .req) (c .pre) (r .in-order .offsets) (subst₂ (Waits (st .ports) (c .req) (c .pre)) (sym ei) (sym et) w) in
       rw (e, r .sets-matched) (subst₂ (λ x y. asks (matched st (c .mode) (c .req) (c .pre) .work .held) x y ≡ true) ei et hit);

@@ -8,9 +8,10 @@ use Rattle.laws.specs.Sets.{asks}
 use Rattle.laws.proofs.Tests.{both}
 use Rattle.frames.specs.Part.{mostPorts}
 use Rattle.ports.specs.declared.state.State.{State}
-use Rattle.demands.specs.History.{Below, howMany, InServed, quota, ByValue, Moves, Fair}
+use Rattle.demands.specs.History.{Below, howMany, InServed, quota, ByValue, Moves, First, Fair}
 use Rattle.demands.specs.Origin.{Alone}
 use Rattle.demands.specs.Call as tables
+use Rattle.demands.specs.Share as on-tables
 use Rattle.demands.specs.SlotCall.{SlotCall, next, number, sets, served, outputAfter, onTables}
 use Rattle.demands.specs.SlotShare.{names, connects, Waiting}
 use Rattle.demands.proofs.Calls.{served-call}
@@ -31,21 +32,26 @@ waiting-named m most st c i t i< done w e =
     let alone : Alone (sets m st c) i t = λ u q. only u (ap (λ s. asks s i u) (sym same) ∙ q) in
     (alone, held-named m most st c done i i< t e)
 
+-- So a call connects a waiting pair if the call on tables that it comes to does.
+pub connects-named : (m : ℕ) → m ≤ mostPorts → (st : State) (c : SlotCall) (i t : ℕ) → i < st .ports → number m st c ≡ 0 → Waiting i t st c
+    → on-tables.connects m i t st (onTables m st c) ≡ true → connects m i t st c ≡ true
+connects-named m most st c i t i< done w hit =
+    let held : asks (sets m st c) i t ≡ true = ap (λ s. asks s i t) (same-sets m st c done) ∙ both (tables.served m st (onTables m st c)) _ hit .1 in
+    rw (eq-eqb _ 0 done, held, waiting-named m most st c i t i< done w held .1)
+
 pub slots-move : (m : ℕ) → Moves (λ st. st) ByValue (next m) (served m)
 slots-move m = record {
   declined-keeps = λ st c k e. declined-does-nothing m st c (eqb-false _ 0 e) .0 .state-kept;
   served-advances = λ st c k e. served-advances m st c (eqb-true _ 0 e);
 }
 
-pub slots-fair : (m : ℕ) → m ≤ mostPorts → (i t : ℕ) → Fair (λ st. st) ByValue (next m) (served m) (connects m i t) (Waiting i t) i t
+pub slots-fair : (m : ℕ) → m ≤ mostPorts → (i t : ℕ) → Fair (λ st. st) ByValue (next m) (served m) (connects m i t) (Waiting i t) (First i t)
 slots-fair m most i t = record {
   moves = slots-move m;
-  favours = λ st c k e w ei et.
+  favours = λ st c k e w (ei, et).
       let done = eqb-true (number m st c) 0 e in
       let i< : i < st .ports = subst (λ (x : ℕ). x < st .ports) ei (served-call m st (onTables m st c) (same-number m st c done) .in-order .offsets .initiator) in
-      let hit = tables-fair m i t .favours st (onTables m st c) tt (eq-eqb _ 0 (same-number m st c done)) (waits-on-tables (whole m st c done) i t i< w) ei et in
-      let held : asks (sets m st c) i t ≡ true = ap (λ s. asks s i t) (same-sets m st c done) ∙ both (tables.served m st (onTables m st c)) _ hit .1 in
-      rw (e, held, waiting-named m most st c i t i< done w held .1);
+      connects-named m most st c i t i< done w (tables-fair m i t .favours st (onTables m st c) tt (eq-eqb _ 0 (same-number m st c done)) (waits-on-tables (whole m st c done) i t i< w) (ei, et));
 }
 
 -- Of W served slot calls in a history, in each of which the pair (i, t) waits, W / n² or more connect it. Declined calls may stand between

@@ -1,23 +1,20 @@
--- The offsets go through every pair in turn, so each pair is favoured once in any n² served slots, and has its share of them.
-use mathlib.Core.Path.{_≡_, refl, sym, ap, _∙_}
-use mathlib.Core.Logic.{_⊎_, inl, inr}
-use mathlib.Core.Bool.{Bool, true, false, cond}
+-- The offsets are a clock that goes through every pair in turn. So each pair is favoured once in any n² served slots, and has its share of them.
+use mathlib.Core.Path.{_≡_, refl, sym, _∙_}
+use mathlib.Core.Bool.{Bool, true, false, _&&_, cond}
 use mathlib.Core.List.{List, [], _∷_}
-use Prim.Native.Nat.{ℕ, zero, suc, _+_, _-_, _*_, _/_, _%_, _≤_, _<_}
-use native.Mathlib.Nat.{mod-lt, mod-eq-of-lt, mod-self, add-zero, mul-le-mul-right, mul-add-mod-self-right, mul-add-div-right, div-eq-of-lt, div-lt-iff-lt-mul}
-use native.Mathlib.Decide.{decLe, decLt}
+use Prim.Native.Nat.{ℕ, suc, _+_, _*_, _/_, _%_, _≤_, _<_}
+use native.Mathlib.Nat.{mod-lt, mod-eq-of-lt, mod-self, mod-add-mod, add-zero, add-mod-right, mul-le-mul-right, mul-add-mod-self-right, add-mul-mod-self-right, mul-add-div-right, add-mul-div-right, div-eq-of-lt, div-add-mod'}
+use native.Mathlib.Decide.{decLt}
 use native.Mathlib.Omega.{arith}
 use lib.Dec.{eqb}
-use borrow.Author.Tests.{ne-eqb}
-use Rattle.laws.proofs.Tests.{arms}
+use borrow.Author.Tests.{eq-eqb, ne-eqb, eqb-true}
+use Rattle.laws.specs.Steps.{steps}
+use Rattle.laws.specs.Sets.{tally}
+use Rattle.laws.proofs.Tests.{arms, both, every}
+use Rattle.laws.proofs.Tallies.{tally-found, tally-round, tally-stretch}
 use Rattle.ports.specs.declared.state.State.{State}
 use Rattle.lcf.specs.Advance.{advance}
-use Rattle.demands.specs.History.{Below, howMany, InEach, InServed, quota, ByValue, Fair}
-
--- ---- the offsets as one number
-
-turn : State → ℕ
-turn st = st .target .0 * st .ports + st .initiator .0
+use Rattle.demands.specs.History.{Below, howMany, InEach, InServed, quota, ByValue, First, Fair}
 
 pub advance-below : (st : State) → Below st → Below (advance st)
 unfolding advance
@@ -26,147 +23,126 @@ advance-below st b = record {
   target = arms (λ x. x < st .ports) (eqb ((st .initiator .0 + 1) % st .ports) 0) _ _ (λ e. mod-lt (st .target .0 + 1) (omega arith)) (λ e. b .target);
 }
 
-pub advance-ports : (st : State) → advance st .ports ≡ st .ports
+-- ---- the offsets as a clock: I goes round in laps of n, and J counts the laps, modulo n
+
+pub record At (n T : ℕ) (st : State) : Type 0 where
+  pub ports : st .ports ≡ n
+  pub initiator : st .initiator .0 ≡ T % n
+  pub target : st .target .0 ≡ T / n % n
+
+-- a time is a lap and a place in it
+pub the-place : (n j x : ℕ) → x < n → (j * n + x) % n ≡ x
+the-place n j x h = mul-add-mod-self-right j n x ∙ mod-eq-of-lt h
+
+pub the-lap : (n j x : ℕ) → x < n → (j * n + x) / n ≡ j
+the-lap n j x h = let some : 0 < n = omega arith in rw (mul-add-div-right, div-eq-of-lt, add-zero)
+
+pub at-first : (n : ℕ) (st : State) → st .ports ≡ n → Below st → At n (st .target .0 * n + st .initiator .0) st
+at-first n st ports b =
+    let x< : st .initiator .0 < n = omega (arith, b .initiator) in
+    let j< : st .target .0 < n = omega (arith, b .target) in
+    record { ports = ports; initiator = sym (the-place n (st .target .0) (st .initiator .0) x<); target = rw (the-lap n (st .target .0) (st .initiator .0) x<) (sym (mod-eq-of-lt j<)) }
+
+pub at-next : (n T : ℕ) (st : State) → 0 < n → At n T st → At n (suc T) (advance st)
 unfolding advance
-advance-ports st = refl
-
-turn-below : (n i t : ℕ) → i < n → t < n → t * n + i < n * n
-turn-below n i t i< t< = omega (arith, mul-le-mul-right n t<)
-
-turn-in : (st : State) → Below st → turn st < st .ports * st .ports
-unfolding turn
-turn-in st b = turn-below (st .ports) (st .initiator .0) (st .target .0) (b .initiator) (b .target)
-
--- one turn on, or from the last to the first
-advance-turn : (st : State) → Below st → (turn (advance st) ≡ turn st + 1) ⊎ ((turn st + 1 ≡ st .ports * st .ports) × (turn (advance st) ≡ 0))
-unfolding advance turn
-advance-turn st b = go (decLt (i + 1) n) (decLt (j + 1) n)
+at-next n T st some at = go (decLt (T % n + 1) n)
   where
-    n : ℕ
-    n = st .ports
+    is : T ≡ T / n * n + T % n
+    is = sym (div-add-mod' T n)
 
-    i : ℕ
-    i = st .initiator .0
-
-    j : ℕ
-    j = st .target .0
-
-    go : Dec (i + 1 < n) → Dec (j + 1 < n) → (turn (advance st) ≡ turn st + 1) ⊎ ((turn st + 1 ≡ n * n) × (turn (advance st) ≡ 0))
-    go (yes h) d = inl (rw (mod-eq-of-lt h, ne-eqb (i + 1) 0 (λ e. omega arith)) (omega arith))
-    go (no h) (yes k) = let e : i + 1 ≡ n = omega (arith, b .initiator) in inl (rw (e, mod-self, mod-eq-of-lt k) (omega arith))
-    go (no h) (no k) =
-        let e : i + 1 ≡ n = omega (arith, b .initiator) in
-        let f : j + 1 ≡ n = omega (arith, b .target) in
-        inr (omega (arith, ap (λ (z : ℕ). z * n) f), rw (e, mod-self, f, mod-self) (omega arith))
-
--- the turn tells the pair
-turn-pair : (st : State) (i t : ℕ) → Below st → i < st .ports → turn st ≡ t * st .ports + i → (st .initiator .0 ≡ i) × (st .target .0 ≡ t)
-unfolding turn
-turn-pair st i t b i< e = (
-  sym (low (st .target .0) (st .initiator .0) (b .initiator)) ∙ ap (λ (z : ℕ). z % st .ports) e ∙ low t i i<,
-  sym (high (st .target .0) (st .initiator .0) (b .initiator)) ∙ ap (λ (z : ℕ). z / st .ports) e ∙ high t i i<,
-)
-  where
-    low : (x y : ℕ) → y < st .ports → (x * st .ports + y) % st .ports ≡ y
-    low x y h = mul-add-mod-self-right x (st .ports) y ∙ mod-eq-of-lt h
-
-    high : (x y : ℕ) → y < st .ports → (x * st .ports + y) / st .ports ≡ x
-    high x y h = let some : 0 < st .ports = omega arith in rw (mul-add-div-right, div-eq-of-lt, add-zero)
+    go : Dec (T % n + 1 < n) → At n (suc T) (advance st)
+    go (yes h) =
+        let e : suc T ≡ T / n * n + (T % n + 1) = omega (arith, is) in
+        record {
+          ports = at .ports;
+          initiator = rw (at .ports, at .initiator, mod-eq-of-lt h, e, the-place n (T / n) (T % n + 1) h);
+          target = rw (at .ports, at .initiator, mod-eq-of-lt h, ne-eqb (T % n + 1) 0 (λ q. omega arith), e, the-lap n (T / n) (T % n + 1) h) (at .target);
+        }
+    go (no h) =
+        let last : T % n + 1 ≡ n = omega (arith, mod-lt T some) in
+        let e : suc T ≡ (T / n + 1) * n + 0 = omega (arith, is) in
+        record {
+          ports = at .ports;
+          initiator = rw (at .ports, at .initiator, last, mod-self, e, the-place n (T / n + 1) 0 some);
+          target = rw (at .ports, at .initiator, last, mod-self, at .target, e, the-lap n (T / n + 1) 0 some) (mod-add-mod (T / n) n 1);
+        }
 
 -- ---- a history
-
--- turn q comes d turns after turn p, of N
-abbrev Ahead : ℕ → ℕ → ℕ → ℕ → Type 0
-Ahead N p q d = (d < N) × ((p + d ≡ q) ⊎ (p + d ≡ q + N))
-
-ahead : (N p q : ℕ) → p < N → q < N → (d : ℕ) × Ahead N p q d
-ahead N p q p< q< = go (decLe p q)
-  where
-    go : Dec (p ≤ q) → (d : ℕ) × Ahead N p q d
-    go (yes h) = (q - p, (omega arith, inl (omega arith)))
-    go (no h) = (q + N - p, (omega arith, inr (omega arith)))
-
--- turn p′ comes after turn p, of N
-abbrev Follows : ℕ → ℕ → ℕ → Type 0
-Follows N p p′ = (p′ ≡ p + 1) ⊎ ((p + 1 ≡ N) × (p′ ≡ 0))
-
--- the turn has come; then it is N - 1 turns ahead, and otherwise one turn nearer
-has-come : (N p q : ℕ) → p < N → Ahead N p q 0 → p ≡ q
-has-come N p q p< (_, inl e) = omega arith
-has-come N p q p< (_, inr e) = omega arith
-
-comes-again : (N p p′ q : ℕ) → p < N → p ≡ q → Follows N p p′ → Ahead N p′ q (N - 1)
-comes-again N p p′ q p< here (inl e) = (omega arith, inr (omega arith))
-comes-again N p p′ q p< here (inr e) = (omega arith, inl (omega arith))
-
-comes-nearer : (N p p′ q d : ℕ) → q < N → Ahead N p q (suc d) → Follows N p p′ → Ahead N p′ q d
-comes-nearer N p p′ q d q< (d<, inl a) (inl e) = (omega arith, inl (omega arith))
-comes-nearer N p p′ q d q< (d<, inl a) (inr e) = absurd (omega arith)
-comes-nearer N p p′ q d q< (d<, inr a) (inl e) = (omega arith, inr (omega arith))
-comes-nearer N p p′ q d q< (d<, inr a) (inr e) = (omega arith, inl (omega arith))
 
 pub by-value : {S C : Type 0} (next : S → C → S) (calls : List C) (st : S) → InEach next ByValue st calls
 unfolding InEach
 by-value next [] st = tt
 by-value next (c ∷ calls) st = (tt, by-value next calls (next st c))
 
-module _ {S C : Type 0} {view : S → State} {Kept : S → C → Type 0} {next : S → C → S} {served connects : S → C → Bool} {Waiting : S → C → Type 0} {i t : ℕ}
-    (fair : Fair view Kept next served connects Waiting i t) where
-  -- with the pair's turn d turns ahead
-  bound : (n : ℕ) → i < n → t < n → (calls : List C) (st : S) (d : ℕ) → view st .ports ≡ n → Below (view st) → Ahead (n * n) (turn (view st)) (t * n + i) d
-      → InEach next Kept st calls → InServed next served Waiting st calls → howMany next served st calls ≤ howMany next connects st calls * (n * n) + d
-  unfolding howMany InEach
-  bound n i< t< [] st d p b a k w = omega arith
-  bound n i< t< (c ∷ calls) st d p b a k w = go (served st c) refl d a (λ d′ p′ b′ a′. bound n i< t< calls (next st c) d′ p′ b′ a′ (k .1) (w .1))
+-- p tells times at which the state favours the pair
+module _ {S C : Type 0} {view : S → State} {Kept : S → C → Type 0} {next : S → C → S} {served connects : S → C → Bool} {Waiting : S → C → Type 0}
+    {Favours : State → Type 0} (fair : Fair view Kept next served connects Waiting Favours) (n : ℕ) (some : 0 < n) (p : ℕ → Bool)
+    (tells : (T : ℕ) (st : State) → At n T st → p T ≡ true → Favours st) where
+  -- so the pair is connected at each of them
+  hits : (calls : List C) (st : S) (T : ℕ) → At n T (view st) → InEach next Kept st calls → InServed next served Waiting st calls
+      → tally p (T + howMany next served st calls) ≤ tally p T + howMany next connects st calls
+  unfolding howMany InEach steps
+  hits [] st T at k w = rw (add-zero T) (omega arith)
+  hits (c ∷ calls) st T at k w = go (served st c) refl (λ T′ at′. hits calls (next st c) T′ at′ (k .1) (w .1))
     where
-      q : ℕ
-      q = t * n + i
-
-      q< : q < n * n
-      q< = turn-below n i t i< t<
-
-      here< : turn (view st) < n * n
-      here< = rw (← p) (turn-in (view st) b)
-
       W : ℕ
       W = howMany next served (next st c) calls
 
       H : ℕ
       H = howMany next connects (next st c) calls
 
-      go : (s : Bool) → served st c ≡ s → (d : ℕ) → Ahead (n * n) (turn (view st)) q d
-          → ((d′ : ℕ) → view (next st c) .ports ≡ n → Below (view (next st c)) → Ahead (n * n) (turn (view (next st c))) q d′ → W ≤ H * (n * n) + d′)
-          → cond s 1 0 + W ≤ (cond (connects st c) 1 0 + H) * (n * n) + d
-      go false e d a rest =
-          let same = fair .moves .declined-keeps st c (k .0) e in
-          let r = rest d (rw same p) (rw same b) (rw same a) in
-          omega arith
-      go true e d a rest = come d a
-        where
-          moved : view (next st c) ≡ advance (view st)
-          moved = fair .moves .served-advances st c (k .0) e
+      now : (b : Bool) → p T ≡ b → served st c ≡ true → cond b (suc (tally p T)) (tally p T) ≤ tally p T + cond (connects st c) 1 0
+      now true q e = let hit : connects st c ≡ true = fair .favours st c (k .0) e (w .0 e) (tells T (view st) at q) in rw hit (omega arith)
+      now false q e = omega arith
 
-          later : (d′ : ℕ) → Ahead (n * n) (turn (view (next st c))) q d′ → W ≤ H * (n * n) + d′
-          later d′ = rest d′ (rw (moved, advance-ports) p) (rw moved (advance-below (view st) b))
+      go : (s : Bool) → served st c ≡ s → ((T′ : ℕ) → At n T′ (view (next st c)) → tally p (T′ + W) ≤ tally p T′ + H)
+          → tally p (T + (cond s 1 0 + W)) ≤ tally p T + (cond (connects st c) 1 0 + H)
+      go false e rest =
+          let same : T + (0 + W) ≡ T + W = omega arith in
+          rw same (omega (arith, rest T (rw (fair .moves .declined-keeps st c (k .0) e) at)))
+      go true e rest =
+          let on : T + (1 + W) ≡ suc T + W = omega arith in
+          rw on (omega (arith, rest (suc T) (rw (fair .moves .served-advances st c (k .0) e) (at-next n T (view st) some at)), now (p T) refl e))
 
-          follows : Follows (n * n) (turn (view st)) (turn (view (next st c)))
-          follows = rw (moved, ← p) (advance-turn (view st) b)
+  -- if c or more of any P times are such, c or more of any P served calls connect it
+  pub fair-stretch : (P c : ℕ) → ((T : ℕ) → tally p T + c ≤ tally p (T + P)) → (st : S) (calls : List C) → InEach next Kept st calls
+      → view st .ports ≡ n → Below (view st) → InServed next served Waiting st calls → howMany next served st calls / P * c ≤ howMany next connects st calls
+  fair-stretch P c each st calls kept ports b w =
+      let T = view st .target .0 * n + view st .initiator .0 in
+      omega (arith, tally-stretch p P c each T (howMany next served st calls), hits calls st T (at-first n (view st) ports b) kept w)
 
-          come : (d : ℕ) → Ahead (n * n) (turn (view st)) q d → 1 + W ≤ (cond (connects st c) 1 0 + H) * (n * n) + d
-          come zero a =
-              let here : turn (view st) ≡ q = has-come (n * n) (turn (view st)) q here< a in
-              let (x, y) = turn-pair (view st) i t b (rw p i<) (here ∙ ap (λ x. t * x + i) (sym p)) in
-              let hit : connects st c ≡ true = fair .favours st c (k .0) e (w .0 e) x y in
-              rw hit (omega (arith, later (n * n - 1) (comes-again (n * n) (turn (view st)) _ q here< here follows)))
-          come (suc d) a = omega (arith, later d (comes-nearer (n * n) (turn (view st)) _ q d q< a follows))
+-- ---- the share: the pair comes once in n² times
 
+-- the offsets are the same again after n² times
+pub same-again : (n T : ℕ) → 0 < n → ((T + n * n) % n ≡ T % n) × ((T + n * n) / n ≡ T / n + n)
+same-again n T some = (add-mul-mod-self-right T n n, add-mul-div-right T n some)
+
+module _ (n i t : ℕ) (i< : i < n) (t< : t < n) where
+  turns : ℕ → Bool
+  turns T = eqb (T % n) i && eqb (T / n % n) t
+
+  turns-again : (T : ℕ) → turns (T + n * n) ≡ turns T
+  unfolding turns
+  turns-again T = let (x, y) = same-again n T (omega arith) in rw (x, y, add-mod-right (T / n) n)
+
+  turns-once : (T : ℕ) → tally turns T + 1 ≤ tally turns (T + n * n)
+  unfolding turns
+  turns-once T = omega (
+    arith,
+    tally-round turns (n * n) turns-again T,
+    tally-found turns 0 (t * n + i) (n * n) (omega arith) (omega (arith, mul-le-mul-right n t<))
+        (every (eq-eqb _ i (the-place n t i i<)) (eq-eqb _ t (rw (the-lap n t i i<) (mod-eq-of-lt t<)))),
+  )
+
+  turns-first : (T : ℕ) (st : State) → At n T st → turns T ≡ true → First i t st
+  unfolding turns
+  turns-first T st at e = let (x, y) = both (eqb (T % n) i) _ e in (at .initiator ∙ eqb-true _ i x, at .target ∙ eqb-true _ t y)
+
+module _ {S C : Type 0} {view : S → State} {Kept : S → C → Type 0} {next : S → C → S} {served connects : S → C → Bool} {Waiting : S → C → Type 0} {i t : ℕ}
+    (fair : Fair view Kept next served connects Waiting (First i t)) where
   -- of W served calls, in each of which the pair waits, W / n² or more connect it, if each call kept its promise
   pub fair-share : (st : S) (calls : List C) → InEach next Kept st calls → Below (view st) → i < view st .ports → t < view st .ports
       → InServed next served Waiting st calls → quota (view st .ports) (howMany next served st calls) ≤ howMany next connects st calls
-  fair-share st calls k b i< t< w =
+  fair-share st calls kept b i< t< w =
       let n = view st .ports in
-      let (d, a) = ahead (n * n) (turn (view st)) (t * n + i) (turn-in (view st) b) (turn-below n i t i< t<) in
-      let most = bound n i< t< calls st d refl b a k w in
-      let some : 0 < n * n = omega (arith, turn-below n i t i< t<) in
-      let less : howMany next served st calls < (howMany next connects st calls + 1) * (n * n) = omega arith in
-      omega (arith, div-lt-iff-lt-mul some .1 less)
+      omega (arith, fair-stretch fair n (omega arith) (turns n i t i< t<) (turns-first n i t i< t<) (n * n) 1 (turns-once n i t i< t<) st calls kept refl b w)

@@ -44,9 +44,12 @@ pub record Moves {S C : Type 0} (view : S → State) (Kept : S → C → Type 0)
   pub declined-keeps : (st : S) (c : C) → Kept st c → served st c ≡ false → view (next st c) ≡ view st
   pub served-advances : (st : S) (c : C) → Kept st c → served st c ≡ true → view (next st c) ≡ advance (view st)
 
--- what the share of the pair (i, t) asks besides: a served call connects the pair if it waits and is the favoured one
+-- the pair (i, t) is the favoured one, (I, J)
+abbrev pub First : ℕ → ℕ → State → Type 0
+First i t st = (st .initiator .0 ≡ i) × (st .target .0 ≡ t)
+
+-- what the share of a pair asks besides: a served call connects the pair if it waits and the state favours it
 pub record Fair {S C : Type 0} (view : S → State) (Kept : S → C → Type 0) (next : S → C → S) (served connects : S → C → Bool) (Waiting : S → C → Type 0)
-    (i t : ℕ) : Type 0 where
+    (Favours : State → Type 0) : Type 0 where
   pub moves : Moves view Kept next served
-  pub favours : (st : S) (c : C) → Kept st c → served st c ≡ true → Waiting st c → view st .initiator .0 ≡ i → view st .target .0 ≡ t
-      → connects st c ≡ true
+  pub favours : (st : S) (c : C) → Kept st c → served st c ≡ true → Waiting st c → Favours (view st) → connects st c ≡ true

@@ -1,9 +1,9 @@
--- What a tally says: none, at most one, no more than were looked at, and fewer than another.
+-- What a tally says: none, at most one, no more than were looked at, fewer than another, and so many in any stretch.
 use mathlib.Core.Path.{_≡_, refl, sym, subst, _∙_}
 use mathlib.Core.Logic.{_↔_, ⊎-elim}
 use mathlib.Core.Bool.{Bool, true, false, cond, true≢false}
-use Prim.Native.Nat.{ℕ, zero, suc, _≤_, _<_}
-use native.Mathlib.Nat.{le-of-suc-le-suc, eq-or-lt-of-le, not-suc-le-zero}
+use Prim.Native.Nat.{ℕ, zero, suc, _+_, _*_, _/_, _≤_, _<_}
+use native.Mathlib.Nat.{le-refl, le-of-suc-le-suc, eq-or-lt-of-le, not-suc-le-zero, div-mul-le-self}
 use native.Mathlib.Decide.{ℕ-discrete}
 use native.Mathlib.Omega.{arith}
 use Rattle.laws.specs.Steps.{steps}
@@ -58,6 +58,48 @@ module _ (p : ℕ → Bool) where
         λ e g h gl hl a b. r .0 e g h (earlier g gl a q) (earlier h hl b q) a b,
         λ f. r .1 (λ g h gl hl. f g h (omega arith) (omega arith)),
       )
+
+  tally-next : (n : ℕ) → tally p n ≤ tally p (suc n)
+  unfolding steps
+  tally-next n = go (p n)
+    where
+      go : (b : Bool) → tally p n ≤ cond b (suc (tally p n)) (tally p n)
+      go true = omega arith
+      go false = omega arith
+
+  tally-more : (k n : ℕ) → k ≤ n → tally p k ≤ tally p n
+  tally-more k zero h = let e : k ≡ 0 = omega arith in rw e (omega arith)
+  tally-more k (suc n) h = ⊎-elim (λ e. rw e (le-refl _)) (λ l. omega (arith, tally-more k n (le-of-suc-le-suc l), tally-next n)) (eq-or-lt-of-le h)
+
+  -- one between k and n has p
+  pub tally-found : (k h n : ℕ) → k ≤ h → h < n → p h ≡ true → tally p k < tally p n
+  unfolding steps
+  tally-found k h n from to e =
+      let here : tally p (suc h) ≡ suc (tally p h) = rw e in
+      omega (arith, tally-more k h from, tally-more (suc h) n to)
+
+  -- if p comes round again after P, as many have it in any P as in the first
+  pub tally-round : (P : ℕ) → ((k : ℕ) → p (k + P) ≡ p k) → (k : ℕ) → tally p (k + P) ≡ tally p k + tally p P
+  unfolding steps
+  tally-round P again zero = let e : 0 + P ≡ P = omega arith in rw e (omega arith)
+  tally-round P again (suc k) =
+      let e : suc k + P ≡ suc (k + P) = omega arith in
+      rw (e, again k) (go (p k) (tally-round P again k))
+    where
+      go : (b : Bool) → tally p (k + P) ≡ tally p k + tally p P
+          → cond b (suc (tally p (k + P))) (tally p (k + P)) ≡ cond b (suc (tally p k)) (tally p k) + tally p P
+      go true h = omega arith
+      go false h = h
+
+  -- if c or more in any P have it, then c for each P of a stretch
+  pub tally-stretch : (P c : ℕ) → ((k : ℕ) → tally p k + c ≤ tally p (k + P)) → (k W : ℕ) → tally p k + W / P * c ≤ tally p (k + W)
+  tally-stretch P c each k W = omega (arith, go (W / P), tally-more (k + W / P * P) (k + W) (omega (arith, div-mul-le-self W P)))
+    where
+      go : (l : ℕ) → tally p k + l * c ≤ tally p (k + l * P)
+      go zero = let e : k + 0 * P ≡ k = omega arith in rw e (omega arith)
+      go (suc l) =
+          let e : k + suc l * P ≡ k + l * P + P = omega arith in
+          rw e (omega (arith, go l, each (k + l * P)))
 
 -- whatever has q has p
 module _ (p q : ℕ → Bool) (too : (k : ℕ) → q k ≡ true → p k ≡ true) where

@@ -8,10 +8,12 @@ use borrow.Author.Tests.{eq-eqb, eqb-true, eqb-false}
 use Rattle.laws.specs.Bytes.{Bytes}
 use Rattle.laws.proofs.Tests.{both}
 use Rattle.frames.specs.Part.{mostPorts}
+use Rattle.ports.specs.declared.state.State.{State}
 use Rattle.lcf.specs.Advance.{advance}
-use Rattle.demands.specs.History.{Below, after, howMany, InEach, InServed, quota, Moves, Fair}
+use Rattle.demands.specs.History.{Below, after, howMany, InEach, InServed, quota, ByValue, Moves, Fair}
 use Rattle.demands.specs.Refusal.{InOrder, Valid}
 use Rattle.demands.specs.SlotCall as frames
+use Rattle.demands.specs.SlotShare as on-frames
 use Rattle.demands.proofs.Turns.{fair-share}
 use Rattle.demands.proofs.Histories.{throughout}
 use Rattle.demands.proofs.Resent.{stale-again}
@@ -39,12 +41,15 @@ module _ (m : ℕ) (most : m ≤ mostPorts) where
     served-advances = λ state d kept e. advances state d kept (eqb-true _ 0 e);
   }
 
-  c-fair : (i t : ℕ) → Fair stateOf (Kept m) next served (connects i t) (Waiting i t) i t
-  c-fair i t = record {
+  -- whom slot calls on frames are fair to, C calls are
+  pub c-fair : (i t : ℕ) {Waits : State → frames.SlotCall → Type 0} {Favours : State → Type 0}
+      → Fair (λ st. st) ByValue (frames.next m) (frames.served m) (on-frames.connects m i t) Waits Favours
+      → Fair stateOf (Kept m) next served (connects i t) (λ state d. Waits (stateOf state) (onFrames d)) Favours
+  c-fair i t fair = record {
     moves = c-moves;
-    favours = λ state d kept e w ei et.
+    favours = λ state d kept e w f.
         let r = served-call m state d kept most (eqb-true _ 0 e) in
-        let hit = slots-fair m most i t .favours (stateOf state) (onFrames d) tt (eq-eqb _ 0 (r .on-frames)) w ei et in
+        let hit = fair .favours (stateOf state) (onFrames d) tt (eq-eqb _ 0 (r .on-frames)) w f in
         rw (e, r .same-table i t, r .same-output) (both (frames.served m (stateOf state) (onFrames d)) _ hit .1);
   }
 
@@ -65,7 +70,7 @@ module _ (m : ℕ) (most : m ≤ mostPorts) where
     -- Of W served calls, in each of which the pair (i, t) waits, W / n² or more connect it, in the bytes of the table and in host i's grant frame.
     pub share : (i t : ℕ) → Below (stateOf state) → i < stateOf state .ports → t < stateOf state .ports → InServed next served (Waiting i t) state calls
         → quota (stateOf state .ports) (howMany next served state calls) ≤ howMany next (connects i t) state calls
-    share i t = fair-share (c-fair i t) state calls kept
+    share i t = fair-share (c-fair i t (slots-fair m most i t)) state calls kept
 
     -- Each call of a history that begins with the bytes of a state in order is as it is demanded.
     pub all-demanded : Bytes state → InOrder m (stateOf state) → InEach next (Demanded m) state calls
