@@ -22,7 +22,7 @@ static const char usage[] =
     "             [trace=FILE] [tables]\n"
     "  ports  hosts on the shelf, 1 to 16\n"
     "  load   chance in percent that a new cell comes for a pair in a slot, 0 to 100\n"
-    "  mode   central, or the round limit of the distributed form, 1 to 16\n"
+    "  mode   central, diagonal, or the round limit of the distributed form, 1 to 16\n"
     "  slots  slots to play, 1 to 1000000; ten turns for each pair if not said\n"
     "  seed   of the random traffic, 0 to 4294967295\n"
     "  trace  file to keep the slots in, as built; it holds 368640 of them\n"
@@ -108,6 +108,8 @@ static void take(struct settings *set, const char *argument)
         set->load = number_of(argument, 0, 100);
     else if (strcmp(argument, "mode=central") == 0)
         set->mode = BELLACUSH_CENTRAL;
+    else if (strcmp(argument, "mode=diagonal") == 0)
+        set->mode = BELLACUSH_DIAGONAL;
     else if (names(argument, "mode"))
         set->mode = number_of(argument, 1, BELLACUSH_MOST_ROUNDS);
     else if (names(argument, "slots"))
@@ -552,6 +554,8 @@ static void print_shelf(const struct settings *set)
     printf("A shelf of %lu ports, load %lu %%, ", set->ports, set->load);
     if (set->mode == BELLACUSH_CENTRAL)
         printf("central");
+    else if (set->mode == BELLACUSH_DIAGONAL)
+        printf("diagonal first");
     else
         printf("distributed with %lu rounds at most", set->mode);
     printf(", %lu slots, seed %lu.\n", set->slots, set->seed);

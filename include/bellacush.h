@@ -57,9 +57,10 @@ extern "C" {
 #define BELLACUSH_CONTENTS_LEN(count) ((size_t)5 + (size_t)10 * (count))
 #define BELLACUSH_BODY_LEN(n, slots) ((size_t)5 + BELLACUSH_BLOCK_LEN(n) * (slots))
 
-/* Modes: central, or the distributed form with a limit of 1 to 16 rounds. */
+/* Modes: central, the distributed form with a limit of 1 to 16 rounds, or diagonal first. */
 #define BELLACUSH_CENTRAL 0
 #define BELLACUSH_MOST_ROUNDS 16
+#define BELLACUSH_DIAGONAL 17
 
 /* The third byte of a grant frame of either type, the second of its part. */
 #define BELLACUSH_GNT_VAL 1
@@ -95,7 +96,8 @@ enum bellacush_number {
     BELLACUSH_BAD_OFFSET = 2,       /* I or J at or above n */
     BELLACUSH_SLOT_STALE = 3,       /* (due - slot) mod 2^32 from 1 to 2147483648 */
     BELLACUSH_SLOT_EARLY = 4,       /* that difference above 2147483648 */
-    BELLACUSH_BAD_LIMIT = 5,        /* distributed round limit outside 1 to 16 */
+    BELLACUSH_BAD_LIMIT = 5,        /* distributed round limit outside 1 to 16: a mode
+                                       from 18 on */
     BELLACUSH_BAD_BLOCK_LEN = 6,    /* block length other than 11 n */
     BELLACUSH_OUT_TOO_SHORT = 7,    /* output below 7 n for a slot, 11 or 7 for one frame; for a
                                        trace or body, below its length; for tables, below 32
@@ -123,7 +125,10 @@ enum bellacush_number {
  * state  7 bytes: the ports n, the initiator offset I, the target offset J, the due slot. A
  *        fresh state has I = 0, J = 0 and the first slot's number as due.
  * slot   the number of the slot that the block belongs to.
- * mode   BELLACUSH_CENTRAL, or else the round limit of the distributed form.
+ * mode   BELLACUSH_CENTRAL; 1 to 16, the round limit of the distributed form; or
+ *        BELLACUSH_DIAGONAL: after the planned connections each pair ((I + k) mod n,
+ *        (J + k) mod n), k from 0 to n - 1, that is asked for, initiator and target being free,
+ *        is connected, and then the central form serves the rest.
  * block  11 n bytes: the configuration frame of host h from byte 11 h; a missing frame is
  *        eleven zeros. A host is heard if its frame is correct. An unheard host asks for
  *        nothing, plans nothing and votes on nothing; it never declines the slot. A host is
@@ -138,7 +143,7 @@ enum bellacush_number {
  *        first, bit t for target t. Several targets for one initiator are a planned multicast.
  *        No target is in two sets. The sets from n on are empty.
  *
- * Returns the number plus 256 times the rounds (0 for the central form). Each round joins a
+ * Returns the number plus 256 times the rounds (0 unless distributed). Each round joins a
  * pair, so there are no more rounds than ports, and a limit of n or more leaves no request
  * whose initiator and target are both free. If the number is
  * BELLACUSH_DONE, the offsets in the state have moved on by one place (I by one; where it comes
@@ -149,7 +154,9 @@ enum bellacush_number {
  *
  * Whatever the other hosts send, a pair is connected in at least W / n^2, rounded down, of any
  * W slots served one after another if in each of them its host is heard, enabled, asks for the
- * target and plans nothing, and no enabled host plans that target.
+ * target and plans nothing, and no enabled host plans that target. The modes may change from slot
+ * to slot. If all of them are in mode BELLACUSH_DIAGONAL, it is connected at least once in any
+ * n + 1 of them, and at least n times in any n^2; for n of 2 or more others can keep it out for n.
  */
 uint32_t bellacush_slot(uint8_t *state, size_t state_len, uint32_t slot, uint32_t mode,
                         const uint8_t *block, size_t block_len, uint16_t link,
@@ -245,7 +252,7 @@ uint32_t bellacush_figures(const uint32_t *ledger, size_t ledger_len,
  *      bodies     one behind the other in the order of their entries, the first right behind
  *                 the contents, without gaps; the last one ends the file
  *
- *      a body     1 byte   the mode: 0 central, or else the round limit, 1 to 16
+ *      a body     1 byte   the mode: 0 central, 1 to 16 the round limit, 17 diagonal first
  *                 1 byte   the initiator offset I before its first slot, below n
  *                 1 byte   the target offset J, below n
  *                 11 n bytes for each slot: its block, as bellacush_slot takes it; what its
@@ -356,12 +363,12 @@ uint32_t bellacush_replay(uint32_t n, uint32_t first, uint32_t slots,
  * before the first of them, and the block of each that is served; a copy that is refused is not
  * recorded.
  *
- * mode    BELLACUSH_CENTRAL, or else the round limit of the distributed form.
+ * mode    BELLACUSH_CENTRAL, the round limit of the distributed form, or BELLACUSH_DIAGONAL.
  * i, j    the offsets I and J before the first slot.
  * blocks  11 n bytes for each slot: the blocks, one behind the other.
  *
  * Returns BELLACUSH_DONE. Otherwise out keeps every byte. Tested in order: 14 (n outside 1 to 16,
- * slots outside 1 to 360, mode above 16, i or j at or above n, or blocks of another length), 7.
+ * slots outside 1 to 360, mode above 17, i or j at or above n, or blocks of another length), 7.
  */
 uint32_t bellacush_seal_body(uint32_t n, uint32_t slots, uint32_t mode, uint32_t i, uint32_t j,
                              const uint8_t *blocks, size_t blocks_len,

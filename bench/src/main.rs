@@ -24,7 +24,11 @@ const MOST_SECONDS: f64 = 8.5e-6;
 const MOST_RATIO: f64 = 2.0;
 const MOST_CHECK_RATIO: f64 = 1.5;
 const MOST_STACK: usize = 512;
-const MODES: [(&str, u32); 2] = [("central", 0), ("distributed, limit 4", 4)];
+const MODES: [(&str, u32); 3] = [
+    ("central", 0),
+    ("distributed, limit 4", 4),
+    ("diagonal first", 17),
+];
 
 fn main() {
     println!("Command: make bench. Processor: {}.", processor());
@@ -217,8 +221,8 @@ fn writing() -> Times {
 
 fn growth() {
     println!("\n## How cost grows with n, half load\n");
-    println!("| n | Central: C form, µs | Rust, µs | Ratio | Limits | Distributed, limit 4: C form, µs | Rust, µs | Ratio | Limits |");
-    println!("|---|---|---|---|---|---|---|---|---|");
+    println!("| n | Central: C form, µs | Rust, µs | Ratio | Limits | Distributed, limit 4: C form, µs | Rust, µs | Ratio | Limits | Diagonal first: C form, µs | Rust, µs | Ratio | Limits |");
+    println!("|---|---|---|---|---|---|---|---|---|---|---|---|---|");
     for ports in 1..=16 {
         print!("| {ports} |");
         for (_, limit) in MODES {
@@ -249,7 +253,7 @@ fn stacks() {
     }
 }
 
-const STACK_MODES: [(&str, u32); 3] = [MODES[0], MODES[1], ("distributed, limit 16", 16)];
+const STACK_MODES: [(&str, u32); 4] = [MODES[0], MODES[1], ("distributed, limit 16", 16), MODES[2]];
 
 fn most_stack(call: SlotCall, limit: u32) -> usize {
     let mixed = Traffic {

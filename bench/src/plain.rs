@@ -4,6 +4,7 @@
 const MOST_PORTS: usize = 16;
 const CONFIG_LEN: usize = 11;
 const GRANT_LEN: usize = 7;
+const DIAGONAL: u32 = 17;
 
 type Rows = [u16; MOST_PORTS];
 
@@ -96,11 +97,17 @@ pub fn slot(
         return number;
     }
     let (mut work, quiet) = begin(at, block);
-    let rounds = if mode == 0 {
-        central(at, &mut work);
-        0
-    } else {
-        distributed(at, mode, &mut work)
+    let rounds = match mode {
+        0 => {
+            central(at, &mut work);
+            0
+        }
+        DIAGONAL => {
+            diagonal(at, &mut work);
+            central(at, &mut work);
+            0
+        }
+        limit => distributed(at, limit, &mut work),
     };
     write_grants(at.n, &work.held, link, quiet, out);
     for (bytes, held) in table.chunks_exact_mut(2).zip(work.held) {
@@ -121,7 +128,7 @@ fn refusal(at: Place, due: u32, slot: u32, mode: u32, block_len: usize, out_len:
         2
     } else if slot != due {
         3 + u32::from(due.wrapping_sub(slot) > 1 << 31)
-    } else if mode > 16 {
+    } else if mode > DIAGONAL {
         5
     } else if block_len != CONFIG_LEN * at.n {
         6
@@ -180,6 +187,17 @@ fn planned(at: Place, pre: &Rows) -> (Rows, u16) {
         held[i] |= 1 << target;
     }
     (held, claimed)
+}
+
+fn diagonal(at: Place, work: &mut Work) {
+    let (mut initiator, mut target) = (at.i, at.j);
+    for _ in 0..at.n {
+        if work.live[initiator] >> target & 1 == 1 {
+            work.join(at.n, initiator, target);
+        }
+        initiator = at.next(initiator);
+        target = at.next(target);
+    }
 }
 
 fn central(at: Place, work: &mut Work) {

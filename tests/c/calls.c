@@ -67,6 +67,7 @@ static void constants_are_the_documents(void)
     CHECK(BELLACUSH_GRANT3_LEN == 7 && BELLACUSH_GRANT3_PART_LEN == 4);
     CHECK(BELLACUSH_GRANT_LEN == 5 && BELLACUSH_GRANT_PART_LEN == 2);
     CHECK(BELLACUSH_BLOCK_LEN(3) == 33 && BELLACUSH_OUT_LEN(2 + 1) == 21);
+    CHECK(BELLACUSH_CENTRAL == 0 && BELLACUSH_MOST_ROUNDS == 16 && BELLACUSH_DIAGONAL == 17);
     CHECK(BELLACUSH_DONE == 0 && BELLACUSH_BAD_PORTS == 1 && BELLACUSH_BAD_OFFSET == 2);
     CHECK(BELLACUSH_SLOT_STALE == 3 && BELLACUSH_SLOT_EARLY == 4 && BELLACUSH_BAD_LIMIT == 5);
     CHECK(BELLACUSH_BAD_BLOCK_LEN == 6 && BELLACUSH_OUT_TOO_SHORT == 7 && BELLACUSH_BAD_LEN == 8);
@@ -120,6 +121,19 @@ static void distributed_slot_is_served(void)
     CHECK(lent.state[1] == 0 && lent.state[2] == 1 && lent.state[6] == 6);
 }
 
+/* Initiator 1 has its diagonal position, and the central form gives target 0 to initiator 2. */
+static void diagonal_first_slot_is_served(void)
+{
+    static const uint16_t req[3] = {2, 2, 1};
+    static const uint8_t table[6] = {0, 0, 0, 2, 0, 1};
+    struct lent lent = asking(3, req), before = lent;
+
+    CHECK(slot(&lent, 5, BELLACUSH_DIAGONAL + 1) == BELLACUSH_BAD_LIMIT && same(&lent, &before));
+    CHECK(slot(&lent, 5, BELLACUSH_DIAGONAL) == BELLACUSH_DONE);
+    CHECK(memcmp(lent.table, table, sizeof table) == 0);
+    CHECK(lent.state[1] == 1 && lent.state[2] == 0 && lent.state[6] == 6);
+}
+
 static void a_copy_is_refused_and_changes_nothing(void)
 {
     static const uint16_t req[4] = {15, 15, 15, 15};
@@ -129,7 +143,7 @@ static void a_copy_is_refused_and_changes_nothing(void)
     served = lent;
     CHECK(slot(&lent, 5, BELLACUSH_CENTRAL) == BELLACUSH_SLOT_STALE && same(&lent, &served));
     CHECK(slot(&lent, 7, BELLACUSH_CENTRAL) == BELLACUSH_SLOT_EARLY && same(&lent, &served));
-    CHECK(slot(&lent, 6, 17) == BELLACUSH_BAD_LIMIT && same(&lent, &served));
+    CHECK(slot(&lent, 6, 18) == BELLACUSH_BAD_LIMIT && same(&lent, &served));
     CHECK(slot(&lent, 6, 16) % 256 == BELLACUSH_DONE && !same(&lent, &served));
 }
 
@@ -502,7 +516,7 @@ static void what_is_no_body_is_not_sealed(void)
     CHECK(bellacush_seal_body(17, 2, 0, 0, 0, r.blocks, 44, out, 50) == BELLACUSH_BAD_TRACE);
     CHECK(bellacush_seal_body(2, 0, 0, 0, 0, NULL, 0, out, 50) == BELLACUSH_BAD_TRACE);
     CHECK(bellacush_seal_body(2, 361, 0, 0, 0, r.blocks, 44, out, 50) == BELLACUSH_BAD_TRACE);
-    CHECK(bellacush_seal_body(2, 2, 17, 0, 0, r.blocks, 44, out, 50) == BELLACUSH_BAD_TRACE);
+    CHECK(bellacush_seal_body(2, 2, 18, 0, 0, r.blocks, 44, out, 50) == BELLACUSH_BAD_TRACE);
     CHECK(bellacush_seal_body(2, 2, 0, 2, 0, r.blocks, 44, out, 50) == BELLACUSH_BAD_TRACE);
     CHECK(bellacush_seal_body(2, 2, 0, 0, 2, r.blocks, 44, out, 50) == BELLACUSH_BAD_TRACE);
     CHECK(bellacush_seal_body(2, 2, 0, 0, 0, r.blocks, 43, out, 48) == BELLACUSH_BAD_TRACE);
@@ -545,6 +559,7 @@ int main(void)
     measures_of_a_trace_are_the_documents();
     central_slot_is_served();
     distributed_slot_is_served();
+    diagonal_first_slot_is_served();
     a_copy_is_refused_and_changes_nothing();
     lengths_are_tested();
     link_and_quiet_hosts_are_told();

@@ -30,7 +30,7 @@ fn refusal(call: &Slot) -> Option<u32> {
         ),
         (3, (1..=HALF).contains(&behind)),
         (4, behind > HALF),
-        (5, call.mode > 16),
+        (5, call.mode > 17),
         (6, call.block.len() != CONFIG_LEN * ports),
         (7, call.out.len() < HELD_LEN * ports),
     ];
@@ -40,16 +40,12 @@ fn refusal(call: &Slot) -> Option<u32> {
 fn served(call: &Slot) -> After {
     let state = State::read(&call.state);
     let hosts = hosts(&call.block);
-    let mode = match call.mode {
-        0 => Mode::Central,
-        limit => Mode::Distributed { limit },
-    };
     let at = Position {
         ports: hosts.len(),
         first_initiator: usize::from(state.initiator),
         first_target: usize::from(state.target),
     };
-    let made = schedule(at, mode, &hosts);
+    let made = schedule(at, Mode::of(call.mode), &hosts);
     let mut after = call.kept(made.rounds * 256);
     after.state = advanced(state).bytes();
     after.table = table(&made.held);

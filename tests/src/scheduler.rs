@@ -1,6 +1,6 @@
 //! An independent scheduler: Figure 2 of the report over a Boolean matrix and counters, and the
-//! distributed form of its section 5 as messages between initiators and targets. Where the
-//! report is silent, document 01 decides.
+//! distributed form of its section 5 as messages between initiators and targets; and what it says
+//! of taking all diagonal positions before others. Where the report is silent, document 01 decides.
 
 // rows and columns are named as in the report
 #![allow(clippy::needless_range_loop)]
@@ -16,6 +16,18 @@ pub type Matrix = [[bool; MOST_PORTS]; MOST_PORTS];
 pub enum Mode {
     Central,
     Distributed { limit: u32 },
+    Diagonal,
+}
+
+impl Mode {
+    /// As C calls and traces number them.
+    pub fn of(number: u32) -> Mode {
+        match number {
+            0 => Mode::Central,
+            17 => Mode::Diagonal,
+            limit => Mode::Distributed { limit },
+        }
+    }
 }
 
 /// Ports and offsets: `first_initiator` is I and `first_target` is J.
@@ -48,6 +60,11 @@ pub fn schedule(at: Position, mode: Mode, hosts: &[Option<Config>]) -> Schedule 
             0
         }
         Mode::Distributed { limit } => slot.match_distributed(limit),
+        Mode::Diagonal => {
+            slot.match_diagonal();
+            slot.match_central();
+            0
+        }
     };
     Schedule {
         held: slot.held,
@@ -146,6 +163,20 @@ impl Slot {
 
     fn count_requests(&self, initiator: usize) -> usize {
         self.live[initiator].iter().filter(|&&live| live).count()
+    }
+
+    /// All diagonal positions that are requested: those as many steps from I as from J.
+    fn match_diagonal(&mut self) {
+        let asked = self.live;
+        for initiator in 0..self.at.ports {
+            for target in 0..self.at.ports {
+                let down = self.steps(self.at.first_initiator, initiator);
+                let across = self.steps(self.at.first_target, target);
+                if down == across && asked[initiator][target] {
+                    self.join(initiator, target);
+                }
+            }
+        }
     }
 
     /// Figure 2, line by line, with its own counters.

@@ -8,6 +8,7 @@ use crate::promises;
 pub const STATE_LEN: usize = 7;
 pub const TABLE_LEN: usize = 32;
 pub const CENTRAL: u32 = 0;
+pub const DIAGONAL: u32 = 17;
 
 #[derive(Clone, Copy, Debug, PartialEq)]
 pub struct State {

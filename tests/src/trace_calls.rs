@@ -207,7 +207,7 @@ impl Seal {
         let block_len = self.n as usize * CONFIG_LEN;
         let fits = (1..=MOST_PORTS as u32).contains(&self.n)
             && (1..=MOST_BODY_SLOTS as u32).contains(&self.slots)
-            && self.mode <= 16
+            && self.mode <= 17
             && self.i.max(self.j) < self.n
             && self.blocks.len() == self.slots as usize * block_len;
         fits.then(|| {

@@ -9,7 +9,7 @@ use crate::traffic::Traffic;
 
 pub const MOST_BODIES: usize = 1024;
 pub const MOST_BODY_SLOTS: usize = 360;
-pub const MOST_MODE: u8 = 16;
+pub const MOST_MODE: u8 = 17;
 
 /// An entry of the contents, right or wrong.
 #[derive(Clone, Copy, Debug, PartialEq)]
@@ -100,12 +100,7 @@ impl Body {
     /// The tables of its slots. In slot k, the offsets stand k turns after the body's own.
     pub fn tables(&self, ports: usize) -> Vec<u8> {
         let own = usize::from(self.target) * ports + usize::from(self.initiator);
-        let mode = match self.mode {
-            0 => Mode::Central,
-            limit => Mode::Distributed {
-                limit: limit.into(),
-            },
-        };
+        let mode = Mode::of(self.mode.into());
         let slots = self.blocks.iter().zip(own..);
         slots
             .flat_map(|(block, turn)| {

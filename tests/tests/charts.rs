@@ -193,7 +193,7 @@ fn next_block(random: &mut Random, traffic: Traffic, last: &[u8]) -> Vec<u8> {
 fn resent_blocks_change_no_figure() {
     let mut random = Random::of_test("resent_blocks_change_no_figure");
     for ports in 1..=16 {
-        for mode in [CENTRAL, 1, 4] {
+        for mode in [CENTRAL, 1, 4, 17] {
             let mut card = Card::new(ports, mode);
             let traffic = Traffic::any(&mut random);
             let mut block = traffic.block(&mut random, ports);
@@ -241,7 +241,7 @@ fn waits_until_connected(card: &mut Card, initiator: usize, target: usize) -> u3
 #[test]
 fn a_request_that_waits_w_slots_and_is_connected_is_one_fresh_request() {
     for ports in 1..=16 {
-        for mode in [CENTRAL, 16] {
+        for mode in [CENTRAL, 16, 17] {
             let mut card = Card::new(ports, mode);
             let mut longest = 0;
             for pair in (0..ports * ports).step_by(1 + ports / 5) {

@@ -149,22 +149,22 @@ fn number_2_for_offsets_at_or_above_n() {
 }
 
 #[test]
-fn number_5_for_limits_outside_1_to_16() {
+fn number_5_for_modes_above_17() {
     let mut call = call(State::fresh(3, 9));
     for bit in 0..32 {
         call.mode = 1 << bit;
         for mode in [call.mode, call.mode + 16, call.mode | HALF] {
             call.mode = mode;
-            if mode > 16 {
+            if mode > 17 {
                 expect_kept(&call, 5);
             }
         }
     }
-    for mode in [17, 18, 255, 256, 257, 272, 65536, 65537, HALF, u32::MAX] {
+    for mode in [18, 19, 255, 256, 257, 272, 65536, 65537, HALF, u32::MAX] {
         call.mode = mode;
         expect_kept(&call, 5);
     }
-    for mode in 0..=16 {
+    for mode in 0..=17 {
         call.mode = mode;
         expect_served(&call);
     }
@@ -227,7 +227,7 @@ const REASONS: [Reason; 9] = [
     (2, |call| call.state[1] = 200),
     (3, |call| call.slot = 8),
     (4, |call| call.slot = 10),
-    (5, |call| call.mode = 17),
+    (5, |call| call.mode = 18),
     (6, |call| call.block.truncate(32)),
     (7, |call| call.out.truncate(14)),
 ];

@@ -35,7 +35,7 @@ fn of_one_port() {
     for fields in 0..8 {
         agrees_everywhere(
             1,
-            &[0, 1, 2],
+            &[0, 1, 2, 17],
             &hosts(1, fields & 1, fields >> 1 & 1, fields >> 2),
         );
     }
@@ -45,14 +45,14 @@ fn of_one_port() {
 fn of_two_ports() {
     for fields in 0..1 << 12 {
         let (asked, planned, cleared) = (fields & 15, fields >> 4 & 15, fields >> 8);
-        agrees_everywhere(2, &[0, 1, 2], &hosts(2, asked, planned, cleared));
+        agrees_everywhere(2, &[0, 1, 2, 17], &hosts(2, asked, planned, cleared));
     }
 }
 
 #[test]
 fn of_three_ports_by_what_is_asked() {
     for asked in 0..1 << 9 {
-        agrees_everywhere(3, &[0, 1, 2, 3], &hosts(3, asked, 0, 0));
+        agrees_everywhere(3, &[0, 1, 2, 3, 17], &hosts(3, asked, 0, 0));
     }
 }
 
@@ -61,7 +61,7 @@ fn of_three_ports_by_what_is_planned() {
     let mut random = Random::of_test("three_ports_planned");
     for planned in 0..1 << 9 {
         for asked in [0x1FF, random.below(1 << 9), random.below(1 << 9)] {
-            agrees_everywhere(3, &[0, 1, 2], &hosts(3, asked, planned, 0));
+            agrees_everywhere(3, &[0, 1, 2, 17], &hosts(3, asked, planned, 0));
         }
     }
 }
@@ -73,7 +73,7 @@ fn of_three_ports_by_the_votes() {
         let planned = random.below(1 << 9) & random.below(1 << 9);
         agrees_everywhere(
             3,
-            &[0, 2],
+            &[0, 2, 17],
             &hosts(3, random.below(1 << 9), planned, cleared),
         );
     }

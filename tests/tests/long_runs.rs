@@ -32,7 +32,7 @@ fn run(random: &mut Random, ports: usize, slots: usize, first_due: u32) {
     for served in 0..slots {
         let due = first_due.wrapping_add(served as u32);
         let block = Traffic::any(random).block(random, ports);
-        let mut call = Slot::due(State::fresh(ports, due), random.below(17) as u32, block);
+        let mut call = Slot::due(State::fresh(ports, due), random.below(18) as u32, block);
         call.state = state;
         call.link = random.word();
         if let Some(last) = &last {
@@ -92,7 +92,7 @@ fn with_every_block_sent_twice_serve_each_once() {
     for ports in 1..=16 {
         let mut state = State::fresh(ports, 7);
         for _ in 0..cases(200) {
-            let mode = random.below(17) as u32;
+            let mode = random.below(18) as u32;
             let block = Traffic::any(&mut random).block(&mut random, ports);
             let first = Slot::due(state, mode, block);
             let after = first.agreed();

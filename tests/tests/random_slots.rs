@@ -37,7 +37,7 @@ fn any_call(random: &mut Random, ports: usize, mode: u32) -> Slot {
 
 /// A call that is served, of any ports and mode.
 fn any_served(random: &mut Random) -> Slot {
-    let (ports, mode) = (random.between(1, 16), random.below(17) as u32);
+    let (ports, mode) = (random.between(1, 16), random.below(18) as u32);
     any_call(random, ports, mode)
 }
 
@@ -45,7 +45,7 @@ fn any_served(random: &mut Random) -> Slot {
 fn slots_of_every_size_and_mode() {
     let mut random = Random::of_test("slots_of_every_size_and_mode");
     for ports in 1..=16 {
-        for mode in 0..=16 {
+        for mode in 0..=17 {
             for _ in 0..cases(600) {
                 let call = any_call(&mut random, ports, mode);
                 assert_eq!(call.agreed().number(), 0);
@@ -59,7 +59,7 @@ fn requests_of_every_load() {
     let mut random = Random::of_test("requests_of_every_load");
     for ports in 1..=16 {
         for load in 0..=64 {
-            for mode in [0, 1, 2, 4, 16] {
+            for mode in [0, 1, 2, 4, 16, 17] {
                 for _ in 0..cases(12) {
                     let block = Traffic::requests(load).block(&mut random, ports);
                     let call = Slot::due(any_state(&mut random, ports), mode, block);
@@ -78,7 +78,7 @@ fn plans_in_conflict_and_multicasts() {
         let mut traffic = Traffic::requests(random.pick(&[8, 32, 64]));
         traffic.planned = [2, 8, 24, 64][case % 4];
         let block = traffic.block(&mut random, ports);
-        let mode = random.pick(&[0, 1, 4]);
+        let mode = random.pick(&[0, 1, 4, 17]);
         let call = Slot::due(any_state(&mut random, ports), mode, block);
         assert_eq!(call.agreed().number(), 0);
     }
@@ -94,7 +94,7 @@ fn cleared_votes() {
         traffic.vote_cleared = [1, 2, 6, 64][case % 4];
         traffic.spoilt = random.pick(&[0, 16]);
         let block = traffic.block(&mut random, ports);
-        let mode = random.pick(&[0, 1, 4]);
+        let mode = random.pick(&[0, 1, 4, 17]);
         let call = Slot::due(any_state(&mut random, ports), mode, block);
         assert_eq!(call.agreed().number(), 0);
     }
@@ -108,7 +108,7 @@ fn frames_damaged_missing_and_foreign() {
         let mut traffic = Traffic::any(&mut random);
         traffic.spoilt = random.pick(&[8, 32, 64]);
         let block = traffic.block(&mut random, ports);
-        let mode = random.pick(&[0, 1, 4]);
+        let mode = random.pick(&[0, 1, 4, 17]);
         let mut call = Slot::due(any_state(&mut random, ports), mode, block);
         call.link = random.word();
         assert_eq!(call.agreed().number(), 0);
@@ -122,7 +122,7 @@ fn bits_at_or_above_n_change_nothing() {
         let ports = random.between(1, 15);
         let beyond = u16::MAX << ports;
         let state = any_state(&mut random, ports);
-        let mode = random.pick(&[0, 1, 4]);
+        let mode = random.pick(&[0, 1, 4, 17]);
         let mut traffic = Traffic::any(&mut random);
         traffic.spoilt = 0;
         let hosts: Vec<_> = (0..ports).map(|_| traffic.config(&mut random)).collect();
@@ -165,7 +165,7 @@ fn disturb(random: &mut Random, call: &mut Slot) {
         3 => call.state[1] = random.pick(&[0, 1, 15, 16, 17, 255]),
         4 => call.state[2] = random.pick(&[0, 1, 15, 16, 17, 255]),
         5 => call.slot = random.pick(&[call.slot.wrapping_sub(1), call.slot.wrapping_add(1)]),
-        6 => call.mode = random.pick(&[0, 1, 16, 17, 18, 255, 256, 272, 65536, HALF, u32::MAX]),
+        6 => call.mode = random.pick(&[0, 1, 16, 17, 18, 19, 255, 256, 272, 65536, HALF, u32::MAX]),
         7 => call.block.resize(near(random, call.block.len()), 0),
         8 => call.out.resize(near(random, call.out.len()), 0xB7),
         _ => call.state = random.bytes(7),
@@ -199,7 +199,7 @@ fn every_number_of_ports_with_any_buffers() {
             let blocks = [0, 11 * ports, call.block.len()];
             call.block.resize(random.pick(&blocks), 1);
             call.out.resize(random.pick(&[0, 7 * ports, 112]), 0xB7);
-            call.mode = random.pick(&[call.mode, 0, 17, u32::MAX]);
+            call.mode = random.pick(&[call.mode, 0, 18, u32::MAX]);
             call.agreed();
         }
     }
@@ -214,7 +214,7 @@ fn all_bytes_random() {
         let call = Slot {
             state: [vec![ports as u8], random.bytes(6)].concat(),
             slot,
-            mode: random.pick(&[0, 1, 16, any_mode]),
+            mode: random.pick(&[0, 1, 16, 17, any_mode]),
             block: random.bytes(11 * ports),
             link: random.word(),
             out: random.bytes(7 * ports),

@@ -63,7 +63,7 @@ fn any_start(random: &mut Random, ports: usize) -> State {
 fn gives_the_tables_of_the_live_slots() {
     let mut random = Random::of_test("replay_of_live_slots");
     for ports in 1..=16 {
-        for mode in 0..=16 {
+        for mode in 0..=17 {
             for _ in 0..cases(10) {
                 let start = any_start(&mut random, ports);
                 let slots = random.between(1, 40);
@@ -77,7 +77,7 @@ fn gives_the_tables_of_the_live_slots() {
 #[test]
 fn of_the_longest_body_gives_the_tables_of_the_live_slots() {
     let mut random = Random::of_test("longest_replay");
-    for (ports, mode) in [(1, 0), (3, 2), (16, 0), (16, 4), (16, 16)] {
+    for (ports, mode) in [(1, 0), (3, 2), (16, 0), (16, 4), (16, 16), (16, 17)] {
         let start = State::at(ports, ports - 1, 0, u32::MAX - 200);
         let live = Live::play(&mut random, start, mode, 360);
         assert_eq!(tables(&Replay::of(&live.body, ports)), live.tables);
@@ -98,7 +98,7 @@ fn of_a_recorded_history_gives_its_tables() {
         };
         let mut played = Vec::new();
         for _ in 0..random.between(1, 6) {
-            let (mode, slots) = (random.below(17) as u8, random.between(1, 30));
+            let (mode, slots) = (random.below(18) as u8, random.between(1, 30));
             let live = Live::play(&mut random, state, mode, slots);
             state = live.end;
             trace.bodies.push(live.body);
@@ -150,7 +150,7 @@ fn starts_from_every_offset() {
         for place in 0..ports * ports {
             body.initiator = (place % ports) as u8;
             body.target = (place / ports) as u8;
-            for mode in [0, 1, 16] {
+            for mode in [0, 1, 16, 17] {
                 body.mode = mode;
                 tables(&Replay::of(&body, ports));
             }

@@ -2,7 +2,7 @@
 //! slips pass.
 
 use bellacush_tests::frames::Config;
-use bellacush_tests::slots::{asking, set, After, Slot, State, CENTRAL};
+use bellacush_tests::slots::{asking, set, After, Slot, State, CENTRAL, DIAGONAL};
 
 fn slot(ports: usize, offsets: (usize, usize), mode: u32, hosts: &[Config]) -> After {
     let state = State::at(ports, offsets.0, offsets.1, 9);
@@ -433,6 +433,38 @@ fn requests_and_plans_at_or_above_n_counting() {
         let after = slot(3, (1, 0), mode, &hosts);
         expect(after, "0:1 1:- 2:-", mode.min(1));
     }
+}
+
+// Diagonal first
+
+#[test]
+fn diagonal_from_j_and_i() {
+    let rows: [&[u32]; 3] = [&[1], &[], &[0, 1, 2]];
+    expect(asked((1, 0), DIAGONAL, &rows), "0:- 1:- 2:1", 0);
+    expect(asked((1, 0), CENTRAL, &rows), "0:1 1:- 2:0", 0);
+}
+
+#[test]
+fn diagonal_without_the_central_form() {
+    expect(asked((0, 0), DIAGONAL, &[&[1], &[]]), "0:1 1:-", 0);
+}
+
+#[test]
+fn diagonal_joining_what_is_not_live() {
+    let plans: [&[u32]; 2] = [&[1], &[]];
+    expect(
+        planned((0, 0), DIAGONAL, &[&[], &[1]], &plans),
+        "0:1 1:-",
+        0,
+    );
+}
+
+#[test]
+fn diagonal_counting_a_round() {
+    everywhere(|n, i, j, _| {
+        let after = slot(n, (i, j), DIAGONAL, &vec![Config::asking(0xFFFF); n]);
+        assert_eq!(after.rounds(), 0);
+    });
 }
 
 #[test]

@@ -127,7 +127,7 @@ fn bodies_are_not_sealed_of_anything_else() {
     for ports in 1..=16 {
         for slots in [1, 3] {
             let right = Seal::of(&Body::any(&mut random, ports, slots), ports);
-            for large in [17, 18, 256, 257, 65_536, 1 << 31, u32::MAX] {
+            for large in [18, 19, 256, 257, 65_536, 1 << 31, u32::MAX] {
                 for field in [PORTS, SLOTS, MODE, I, J] {
                     expect_no_seal(&mut random, &right, field, large);
                 }
@@ -254,7 +254,7 @@ fn traces_are_written_of_bodies_of_proper_form_alone() {
     let mut random = Random::of_test("write_forms");
     for ports in 1..=16_u8 {
         let layout = Layout::of_three_bodies(&mut random, ports.into());
-        for fields in [[16, 0, 0], [17, 0, 0], [0, ports, 0], [0, 0, ports]] {
+        for fields in [[17, 0, 0], [18, 0, 0], [0, ports, 0], [0, 0, ports]] {
             let mut changed = layout.clone();
             changed.set_fields(random.below(3), fields);
             let writing = Writing {
@@ -263,7 +263,7 @@ fn traces_are_written_of_bodies_of_proper_form_alone() {
                 slots: vec![3, 2, 1],
                 bodies: changed.bodies.concat(),
             };
-            let expected = if fields == [16, 0, 0] { 0 } else { 14 };
+            let expected = if fields == [17, 0, 0] { 0 } else { 14 };
             assert_eq!(writing.agreed(&[0xB7; 2000]).0, expected);
         }
     }

@@ -244,11 +244,11 @@ fn of_every_mode_and_offset_of_a_body() {
         let offsets = [0, ports - 1, ports, ports + 1, 16, 255];
         let pairs = offsets.iter().flat_map(|&i| offsets.map(|j| (i, j)));
         for (i, j) in pairs {
-            for mode in [0, 1, 15, 16, 17, 18, 33, 128, 255] {
+            for mode in [0, 1, 15, 16, 17, 18, 19, 33, 128, 255] {
                 let mut layout = right.clone();
                 let k = random.below(3);
                 layout.set_fields(k, [mode, i, j]);
-                if mode <= 16 && i < ports && j < ports {
+                if mode <= 17 && i < ports && j < ports {
                     expect_trace(&layout.file(), ports.into(), 3);
                 } else {
                     expect_bad_body(&layout.file());
@@ -342,7 +342,7 @@ fn change(random: &mut Random, layout: &mut Layout) {
         }
         _ => {
             let k = random.below(bodies);
-            let fields = random.pick(&[[17, 0, 0], [16, 15, 15], [0, 1, 0], [3, 0, 1]]);
+            let fields = random.pick(&[[18, 0, 0], [17, 15, 15], [0, 1, 0], [3, 0, 1]]);
             layout.set_fields(k, fields);
         }
     }

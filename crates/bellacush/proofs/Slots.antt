@@ -48,7 +48,7 @@ module _ (m : ℕ) (state : List ℕ) (slot mode : ℕ) (block : List ℕ) (link
   unfolding fits
   wrong-table same other = unfit (rw (eq-eqb _ _ same, ne-eqb _ _ other))
 
-  pub ran : (st : State) (md : Mode) (r : Stepped) (o s t : List ℕ) (word : ℕ) → length state ≡ stateLen → length table ≡ tableLen m → st ≡ stateOf state → md ≡ modeOf mode
+  pub ran : (st : State) (md : Mode) (r : Stepped) (o s t : List ℕ) (word : ℕ) → length state ≡ stateLen → length table ≡ tableLen m → st ≡ stateOf state → md ≡ modeOf m mode
       → (r ≡ stepped m st slot md block out) × (o ≡ output m st slot md block link out) → (s ≡ stateAfter r state) × (t ≡ tableAfter r table) → word ≡ wordOf (r .answer)
       → Left word s t o
   unfolding slotWord slotState slotTable slotOutput fits run

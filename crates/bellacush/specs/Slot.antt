@@ -40,7 +40,7 @@ module _ (m : ℕ) (state : List ℕ) (slot mode : ℕ) (block : List ℕ) where
     fits = eqb (length state) stateLen && eqb (length table) (tableLen m)
 
     unfoldable pub run : Stepped
-    run = stepped m (stateOf state) slot (modeOf mode) block out
+    run = stepped m (stateOf state) slot (modeOf m mode) block out
 
     -- 8 before every other number; what is lent then stays
     unfoldable pub slotWord : ℕ
@@ -53,4 +53,4 @@ module _ (m : ℕ) (state : List ℕ) (slot mode : ℕ) (block : List ℕ) where
     slotTable = cond fits (tableAfter run table) table
 
   unfoldable pub slotOutput : ℕ → List ℕ → List ℕ → List ℕ
-  slotOutput link out table = cond (fits out table) (output m (stateOf state) slot (modeOf mode) block link out) out
+  slotOutput link out table = cond (fits out table) (output m (stateOf state) slot (modeOf m mode) block link out) out

@@ -14,11 +14,12 @@ use Rattle.laws.proofs.Steps.{kept, kept-from-first}
 use Rattle.laws.proofs.Members.{gathered-has}
 use Rattle.ports.specs.declared.state.State.{State}
 use Rattle.ports.specs.declared.state.Mode.{Mode}
-use Rattle.ports.specs.declared.state.Mode.the-variants.{Central, Distributed}
+use Rattle.ports.specs.declared.state.Mode.the-variants.{Central, Distributed, Diagonal}
 use Rattle.lcf.specs.Choice.{place}
 use Rattle.lcf.specs.Join.{join, joinLive}
 use Rattle.lcf.specs.Planned.{planner, give, planned}
-use Rattle.lcf.specs.Central.{winner, serve}
+use Rattle.lcf.specs.Central.{winner, serve, central}
+use Rattle.lcf.specs.Diagonal.{diagonal, diagonalFirst}
 use Rattle.lcf.specs.Distributed.{grants, offers, accepted, answer, round, anyLive, oneMore, rounds, distributed}
 use Rattle.lcf.specs.Slot.{serveMode}
 use Rattle.lcf.specs.declared.work.Work.{Work}
@@ -45,6 +46,12 @@ module _ (P : Work → Type 0) (keeps : (s : Work) (i t : ℕ) → asks (s .live
   serve-keeps : (k : ℕ) (s : Work) → P s → P (serve st k s)
   unfolding serve
   serve-keeps k s = live-keeps s _ _
+
+  pub central-keeps : (s : Work) → P s → P (central st s (st .ports))
+  central-keeps s = kept _ s (λ k. P) (st .ports) (λ k u h. serve-keeps k u)
+
+  diagonal-keeps : (s : Work) → P s → P (diagonal st s (st .ports))
+  diagonal-keeps s = kept _ s (λ k. P) (st .ports) (λ k u h. live-keeps u _ _)
 
   -- the round that began with these live requests and these grants
   module _ (live asked grant : List ℕ) where
@@ -87,17 +94,20 @@ module _ (P : Work → Type 0) (keeps : (s : Work) (i t : ℕ) → asks (s .live
       (λ k u h q. arms (λ (v : Run). P (v .work)) (anyLive (u .work .live) (st .ports)) _ _ (λ e. round-keeps (u .work) q) (λ e. q)) p
 
   pub mode-keeps : (mode : Mode) (s : Work) → P s → P (serveMode st mode s .work)
-  unfolding serveMode distributed
-  mode-keeps Central s p = kept _ s (λ k. P) (st .ports) (λ k u h. serve-keeps k u) p
+  unfolding serveMode distributed diagonalFirst
+  mode-keeps Central s p = central-keeps s p
   mode-keeps (Distributed limit) s p = rounds-keep limit _ (live-keeps s _ _ p)
+  mode-keeps Diagonal s p = central-keeps _ (diagonal-keeps s p)
 
   -- every mode begins with the favoured pair (I, J), if its request is live
   pub mode-favours : Below st → (mode : Mode) (s : Work) → asks (s .live) (st .initiator .0) (st .target .0) ≡ true
       → P (join s (st .initiator .0) (st .target .0)) → P (serveMode st mode s .work)
-  unfolding serveMode distributed serve winner joinLive
+  unfolding serveMode distributed diagonalFirst serve winner joinLive
   mode-favours b Central s e p = kept-from-first (serve st) s P (st .ports) (λ k u. serve-keeps k u)
       (rw (first-place (st .ports) (st .target .0) (b .target), first-place (st .ports) (st .initiator .0) (b .initiator), e, e) p) (omega (arith, b .target))
   mode-favours b (Distributed limit) s e p = rounds-keep limit _ (rw e p)
+  mode-favours b Diagonal s e p = central-keeps _ (kept-from-first _ s P (st .ports) (λ k u. live-keeps u _ _)
+      (rw (first-place (st .ports) (st .initiator .0) (b .initiator), first-place (st .ports) (st .target .0) (b .target), e) p) (omega (arith, b .target)))
 
 -- What the giving of a planned target keeps, the planned stage keeps: P t holds when the targets below t have been given.
 module _ (P : ℕ → Work → Type 0) (st : State) (pre : List ℕ) where

@@ -12,7 +12,7 @@ use Rattle.laws.specs.Steps.{steps}
 use Rattle.laws.proofs.Steps.{upto}
 use Rattle.ports.specs.declared.state.State.{State}
 use Rattle.ports.specs.declared.state.Mode.{Mode}
-use Rattle.ports.specs.declared.state.Mode.the-variants.{Central, Distributed}
+use Rattle.ports.specs.declared.state.Mode.the-variants.{Central, Distributed, Diagonal}
 use Rattle.ports.specs.declared.answer.Stepped.{Stepped}
 use Rattle.lcf.specs.Distributed.{anyLive, round, oneMore, distributed}
 use Rattle.lcf.specs.Planned.{start}
@@ -70,6 +70,7 @@ distributed-counted st s (suc k) = one-more st _ k _ (distributed-counted st s k
 matched-rounds : (st : State) (mode : Mode) (req pre : List ℕ) → RoundsOf st mode (start st req pre) (matched st mode req pre .rounds) (matched st mode req pre .work .held)
 unfolding matched serveMode
 matched-rounds st Central req pre = refl
+matched-rounds st Diagonal req pre = refl
 matched-rounds st (Distributed limit) req pre =
     let c = distributed-counted st (start st req pre) limit in
     (c .counts, ap (λ (w : Work). w .held) (c .made))
@@ -79,9 +80,13 @@ module _ (st : State) (req pre : List ℕ) (rows : st .ports ≤ length req) whe
   begun-within : Within (st .ports) (begun st (start st req pre))
   begun-within = live-keeps (Within (st .ports)) (join-within st) st (start st req pre) _ _ (start-within st req pre rows)
 
+  no-rounds : RoundsJoin st (begun st (start st req pre)) 0
+  no-rounds = rounds-join st _ begun-within 0 (λ k l. absurd (omega arith))
+
   matched-joins : (mode : Mode) → RoundsJoin st (begun st (start st req pre)) (matched st mode req pre .rounds)
   unfolding matched serveMode
-  matched-joins Central = rounds-join st _ begun-within 0 (λ k l. absurd (omega arith))
+  matched-joins Central = no-rounds
+  matched-joins Diagonal = no-rounds
   matched-joins (Distributed limit) = rounds-join st _ begun-within _ (distributed-counted st (start st req pre) limit .counts .each-live)
 
   -- A limit of n or more leaves no live request.

@@ -26,7 +26,7 @@ use Rattle.demands.proofs.Refusal.{declined-does-nothing}
 use Rattle.demands.proofs.Turns.{fair-share, by-value}
 
 -- a waiting pair is live after the planned stage
-waits-live : (st : State) (req pre : List ℕ) (i t : ℕ) → i < st .ports → t < st .ports → Waits (st .ports) req pre i t → Live st req pre i t
+pub waits-live : (st : State) (req pre : List ℕ) (i t : ℕ) → i < st .ports → t < st .ports → Waits (st .ports) req pre i t → Live st req pre i t
 waits-live st req pre i t i< t< w = record {
   initiator = i<;
   target = t<;

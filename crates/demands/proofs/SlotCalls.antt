@@ -7,15 +7,16 @@ use native.Mathlib.Decide.{ℕ-discrete}
 use native.Mathlib.Omega.{arith}
 use lib.Dec.{eqb, ltb, leb, eqb·suc-zero}
 use lib.ListN.{length}
-use borrow.Author.Tests.{eqb-false, ne-eqb, ltb-true, lt-ltb, leb-true, le-leb, not-true}
+use borrow.Author.Tests.{eqb-false, eq-eqb, ne-eqb, ltb-true, lt-ltb, leb-true, le-leb, not-true}
 use Rattle.laws.proofs.Tests.{both, every, either, arms}
 use Rattle.laws.proofs.Rows.{length-tabled}
 use Rattle.frames.specs.Part.{frameLen, toldLen}
 use Rattle.frames.specs.Frame.{differs}
+use Rattle.ports.specs.Modes.{diagonalMode, modeOf}
 use Rattle.ports.specs.Due.{behind, wrongLimit, dueNumber, declined}
 use Rattle.ports.specs.declared.state.State.{State}
 use Rattle.ports.specs.declared.state.Mode.{Mode}
-use Rattle.ports.specs.declared.state.Mode.the-variants.{Central, Distributed}
+use Rattle.ports.specs.declared.state.Mode.the-variants.{Central, Distributed, Diagonal}
 use Rattle.ports.specs.declared.answer.Stepped.{Stepped}
 use Rattle.hearing.specs.Heard.{counted}
 use Rattle.lcf.specs.Slot.{matched, ended, slotOnTables}
@@ -49,10 +50,21 @@ tests-either a b p q = (
 tests-both : {A B : Type 0} (a b : Bool) → Tests a A → Tests b B → Tests (a && b) (A × B)
 tests-both a b p q = (λ e. let (x, y) = both a b e in (p .0 x, q .0 y), λ (x, y). every (p .1 x) (q .1 y))
 
-tests-limit : (m : ℕ) (mode : Mode) → Tests (wrongLimit m mode) (WrongLimit m mode)
+pub tests-limit : (m : ℕ) (mode : Mode) → Tests (wrongLimit m mode) (WrongLimit m mode)
 unfolding wrongLimit
 tests-limit m Central = (λ e. true≢false (sym e), λ e. absurd e)
 tests-limit m (Distributed limit) = tests-either (ltb limit 1) (ltb m limit) (tests-less limit 1) (tests-less m limit)
+tests-limit m Diagonal = (λ e. true≢false (sym e), λ e. absurd e)
+
+-- A mode is a wrong limit exactly if its number is above that of diagonal-first.
+pub limit-exactly : (m mode : ℕ) → WrongLimit m (modeOf m mode) ↔ (diagonalMode m < mode)
+unfolding modeOf
+limit-exactly m zero = (λ wrong. absurd wrong, λ above. omega arith)
+limit-exactly m (suc k) = rw (eqb·suc-zero k) (go (ℕ-discrete (suc k) (diagonalMode m)))
+  where
+    go : Dec (suc k ≡ diagonalMode m) → WrongLimit m (cond (eqb (suc k) (diagonalMode m)) Diagonal (Distributed (suc k))) ↔ (diagonalMode m < suc k)
+    go (yes e) = rw (eq-eqb (suc k) (diagonalMode m) e) (λ wrong. absurd wrong, λ above. omega arith)
+    go (no ne) = rw (ne-eqb (suc k) (diagonalMode m) ne) (⊎-elim (λ l. omega arith) (λ l. omega arith), λ above. inr (omega arith))
 
 tests-other : (x y : ℕ) → Tests (differs x y) (x ≡ y → ⊥)
 tests-other x y = (λ e. eqb-false x y (not-true _ e), λ ne. ap not (ne-eqb x y ne))

@@ -7,13 +7,14 @@ use Rattle.frames.specs.Part.{frameLen, toldLen}
 use Rattle.ports.specs.Due.{behind}
 use Rattle.ports.specs.declared.state.State.{State}
 use Rattle.ports.specs.declared.state.Mode.{Mode}
-use Rattle.ports.specs.declared.state.Mode.the-variants.{Central, Distributed}
+use Rattle.ports.specs.declared.state.Mode.the-variants.{Central, Distributed, Diagonal}
 use Rattle.demands.specs.SlotCall.{SlotCall}
 
 -- the round limit is outside 1 to m
 abbrev pub WrongLimit : ℕ → Mode → Type 0
 WrongLimit m Central = ⊥
 WrongLimit m (Distributed limit) = (limit < 1) ⊎ (m < limit)
+WrongLimit m Diagonal = ⊥
 
 -- one row: x is its number where it applies, and otherwise what the rows below it say
 pub data Row (number : ℕ) (applies : Type 0) (below : ℕ → Type 0) (x : ℕ) : Type 0 where

@@ -8,7 +8,7 @@ use Rattle.laws.specs.Steps.{steps}
 use Rattle.laws.specs.Sets.{asks}
 use Rattle.ports.specs.declared.state.State.{State}
 use Rattle.ports.specs.declared.state.Mode.{Mode}
-use Rattle.ports.specs.declared.state.Mode.the-variants.{Central, Distributed}
+use Rattle.ports.specs.declared.state.Mode.the-variants.{Central, Distributed, Diagonal}
 use Rattle.lcf.specs.Join.{joinLive}
 use Rattle.lcf.specs.Distributed.{round}
 use Rattle.lcf.specs.Planned.{start}
@@ -36,9 +36,10 @@ pub record RoundsRun (st : State) (limit : ℕ) (s : Work) (r : ℕ) : Type 0 wh
 abbrev pub begun : State → Work → Work
 begun st s = joinLive s (st .initiator .0) (st .target .0)
 
--- a slot has r rounds and ends with these sets, s being the work after the planned stage: the central form has no round
+-- a slot has r rounds and ends with these sets, s being the work after the planned stage: only the distributed form has rounds
 abbrev pub RoundsOf : State → Mode → Work → ℕ → List ℕ → Type 0
 RoundsOf st Central s r sets = r ≡ 0
+RoundsOf st Diagonal s r sets = r ≡ 0
 RoundsOf st (Distributed limit) s r sets = RoundsRun st limit (begun st s) r × (sets ≡ afterRounds st (begun st s) r .held)
 
 -- the slot call c has r rounds

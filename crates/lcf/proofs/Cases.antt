@@ -10,12 +10,13 @@ use Rattle.ports.specs.Tables.{within}
 use Rattle.ports.specs.Due.{behind, wrongLimit, dueNumber, declined}
 use Rattle.ports.specs.declared.state.State.{State}
 use Rattle.ports.specs.declared.state.Mode.{Mode}
-use Rattle.ports.specs.declared.state.Mode.the-variants.{Central, Distributed}
+use Rattle.ports.specs.declared.state.Mode.the-variants.{Central, Distributed, Diagonal}
 use Rattle.hearing.specs.Heard.{present, counted}
 use Rattle.lcf.specs.Choice.{choice}
 use Rattle.lcf.specs.Join.{join, joinLive}
 use Rattle.lcf.specs.Planned.{planner, give, planned, start}
 use Rattle.lcf.specs.Central.{fewest, winner, serve}
+use Rattle.lcf.specs.Diagonal.{diagonalFirst}
 use Rattle.lcf.specs.Distributed.{askers, grants, offers, accepted, answer, round, oneMore, distributed}
 use Rattle.lcf.specs.Advance.{advance}
 use Rattle.lcf.specs.Slot.{serveMode, matched, ended, slotOnTables}
@@ -62,3 +63,21 @@ worked : cases ≡
     ∷ []
 unfolding cases none shown whole steps ones present counted choice join joinLive planner give planned fewest winner serve askers grants offers accepted answer round oneMore distributed advance within start serveMode matched behind wrongLimit dueNumber declined ended slotOnTables
 worked = refl
+
+-- Diagonal first, B, C, E and F: in B initiator 2 holds target 2 now, in E the pair (1, 1) has its turn, and in C and F the central form serves the rest.
+diagonals : List (List ℕ)
+diagonals =
+    shown 3 0 0 Diagonal (3 ∷ 1 ∷ 6 ∷ 0 ∷ []) none
+    ∷ shown 3 2 0 Diagonal (3 ∷ 1 ∷ 6 ∷ 0 ∷ []) none
+    ∷ shown 3 0 0 Diagonal (0 ∷ 3 ∷ 0 ∷ 0 ∷ []) none
+    ∷ shown 4 3 1 Diagonal (9 ∷ 3 ∷ 0 ∷ 0 ∷ []) (8 ∷ 0 ∷ 0 ∷ 10 ∷ [])
+    ∷ []
+
+worked-first : diagonals ≡
+    (0 ∷ 0 ∷ 1 ∷ 0 ∷ 4 ∷ [])
+    ∷ (0 ∷ 0 ∷ 2 ∷ 1 ∷ 4 ∷ [])
+    ∷ (0 ∷ 0 ∷ 0 ∷ 2 ∷ 0 ∷ [])
+    ∷ (0 ∷ 0 ∷ 1 ∷ 0 ∷ 0 ∷ 10 ∷ [])
+    ∷ []
+unfolding diagonals none shown whole steps ones choice join joinLive planner give planned fewest winner serve diagonalFirst advance within start serveMode matched behind wrongLimit dueNumber ended slotOnTables
+worked-first = refl

@@ -3,6 +3,7 @@ pub mod Scan
 pub mod Join
 pub mod Planned
 pub mod Central
+pub mod Diagonal
 pub mod Distributed
 pub mod Offers
 pub mod Advance

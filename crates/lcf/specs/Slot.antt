@@ -6,19 +6,21 @@ use lib.Dec.{eqb}
 use Rattle.ports.specs.Due.{dueNumber, declined}
 use Rattle.ports.specs.declared.state.State.{State}
 use Rattle.ports.specs.declared.state.Mode.{Mode}
-use Rattle.ports.specs.declared.state.Mode.the-variants.{Central, Distributed}
+use Rattle.ports.specs.declared.state.Mode.the-variants.{Central, Distributed, Diagonal}
 use Rattle.ports.specs.declared.answer.Stepped.{Stepped}
 use Rattle.lcf.specs.Planned.{start}
 use Rattle.lcf.specs.Central.{central}
+use Rattle.lcf.specs.Diagonal.{diagonalFirst}
 use Rattle.lcf.specs.Distributed.{distributed}
 use Rattle.lcf.specs.Advance.{advance}
 use Rattle.lcf.specs.declared.work.Work.{Work}
 use Rattle.lcf.specs.declared.work.Run.{Run}
 
--- rules 5 and 6
+-- rules 5 and 6, and diagonal-first
 unfoldable pub serveMode : State → Mode → Work → Run
 serveMode st Central s = record { work = central st s (st .ports); rounds = 0 }
 serveMode st (Distributed limit) s = distributed st limit s
+serveMode st Diagonal s = record { work = diagonalFirst st s; rounds = 0 }
 
 unfoldable pub matched : State → Mode → List ℕ → List ℕ → Run
 matched st mode req pre = serveMode st mode (start st req pre)

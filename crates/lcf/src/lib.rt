@@ -1,6 +1,7 @@
 // The Least Choice First scheduler on tables: rules 3 to 7 of document 01.
 mod central;
 mod choice;
+mod diagonal;
 mod distributed;
 mod join;
 mod planned;

@@ -1,6 +1,7 @@
 // One slot on tables: rules 3 to 7.
 use crate::central::central;
 use crate::choice::wrapped;
+use crate::diagonal::opened;
 use crate::distributed::distributed;
 use crate::planned::planned;
 use crate::work::Run;
@@ -61,18 +62,18 @@ fn start(state: State, req: Table, pre: Table) -> Work
     planned(state, within(state.ports, pre), work)
 }
 
-// Rules 5 and 6.
+// Rules 5 and 6, and diagonal-first. One call serves by the central form, so that it needs no frame of its own.
 fn serve_mode(state: State, mode: Mode, work: Work) -> Run
     requires { ⌜ (Ready mostPorts state) × (wrongLimit mostPorts mode ≡ false) ⌝ }
     ensures { λ r. ⌜ r ≡ serveMode state mode work ⌝ }
 {
-    match mode {
-        Mode::Central => Run {
-            work: central(state, work),
+    let Mode::Distributed(limit) = mode else {
+        return Run {
+            work: central(state, opened(state, mode, work)),
             rounds: 0,
-        },
-        Mode::Distributed(limit) => distributed(state, limit, work),
-    }
+        };
+    };
+    distributed(state, limit, work)
 }
 
 fn ended(state: State, run: Run) -> Stepped

@@ -1,8 +1,9 @@
 -- What is known of live calls that were served: their states, and that their blocks fit a body.
 use mathlib.Core.Path.{_≡_, refl, sym, ap, _∙_}
-use mathlib.Core.Bool.{Bool, false, cond}
+use mathlib.Core.Bool.{Bool, false, cond, true≢false}
 use mathlib.Core.List.{List, _++_}
 use Prim.Native.Nat.{ℕ, zero, suc, _+_, _*_, _%_, _^_, _≤_, _<_}
+use native.Mathlib.Decide.{decLt}
 use native.Mathlib.Omega.{arith}
 use lib.Dec.{eqb, ltb, eqb·suc-zero}
 use lib.ListN.{length}
@@ -13,7 +14,7 @@ use Rattle.laws.proofs.Loops.{same-steps}
 use Rattle.laws.proofs.Parts.{length-parts, part-at}
 use Rattle.laws.proofs.Tests.{every, arms}
 use Rattle.frames.specs.Part.{mostPorts, frameLen}
-use Rattle.ports.specs.Modes.{modeOf}
+use Rattle.ports.specs.Modes.{diagonalMode, modeOf}
 use Rattle.ports.specs.Due.{wrongLimit, dueNumber, declined}
 use Rattle.ports.specs.declared.state.State.{State}
 use Rattle.ports.specs.declared.answer.Stepped.{Stepped}
@@ -21,7 +22,7 @@ use Rattle.lcf.specs.Advance.{advance}
 use Rattle.lcf.specs.Slot.{slotOnTables}
 use Rattle.ports.proofs.Numbers as tables
 use Rattle.demands.specs.SlotCall.{SlotCall, number}
-use Rattle.demands.proofs.SlotCalls.{whole, same-number}
+use Rattle.demands.proofs.SlotCalls.{tests-limit, limit-exactly, whole, same-number}
 use Rattle.demands.proofs.SlotServed.{served-advances}
 use Rattle.trace_parts.specs.Layout.{blockLen, mostMode}
 use Rattle.trace_parts.specs.Body.{formed}
@@ -39,10 +40,12 @@ ready : (m : ℕ) (st : State) (c : SlotCall) → number m st c ≡ 0 → tables
 unfolding slotOnTables
 ready m st c e = tables.served m st (c .slot) (c .mode) (not-refused m st (dueNumber m st (c .slot) (c .mode)) _ (same-number m st c e))
 
-limit-most : (m mode : ℕ) → wrongLimit m (modeOf mode) ≡ false → mode ≤ m
-unfolding modeOf
-limit-most m zero e = omega arith
-limit-most m (suc mode) e = tables.limit-fits m (suc mode) _ (rw (eqb·suc-zero mode)) e
+limit-most : (m mode : ℕ) → wrongLimit m (modeOf m mode) ≡ false → mode ≤ diagonalMode m
+limit-most m mode e = go (decLt (diagonalMode m) mode)
+  where
+    go : Dec (diagonalMode m < mode) → mode ≤ diagonalMode m
+    go (yes l) = absurd (true≢false (sym (tests-limit m (modeOf m mode) .1 (limit-exactly m mode .1 l)) ∙ e))
+    go (no l) = omega arith
 
 -- ---- all of them
 
@@ -108,6 +111,6 @@ module _ (mode : ℕ) (calls : ℕ → SlotCall) (st : State) (slots : ℕ) (h :
         least = h .some;
         most = h .most;
         long = ap length same-blocks ∙ length-parts padded (blockLen n) padded-long slots;
-        form = every (le-leb mode mostPorts (limit-most mostPorts mode (ap (wrongLimit mostPorts) (sym (h .one-mode 0 (h .some))) ∙ s .limit)))
+        form = every (le-leb mode (mostMode n) (limit-most mostPorts mode (ap (wrongLimit mostPorts) (sym (h .one-mode 0 (h .some))) ∙ s .limit)))
             (every (lt-ltb _ _ (s .ready .initiator)) (lt-ltb _ _ (s .ready .target)));
       }

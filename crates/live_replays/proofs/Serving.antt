@@ -1,37 +1,31 @@
 -- Every slot of a sound body is served, and their numbers follow each other from the first on.
 use mathlib.Core.Path.{_≡_, refl, sym, ap, _∙_}
-use mathlib.Core.Logic.{⊎-elim}
 use mathlib.Core.Bool.{true}
 use mathlib.Core.List.{List}
 use Prim.Native.Nat.{ℕ, zero, suc, _+_, _*_, _-_, _%_, _^_, _≤_, _<_}
 use native.Mathlib.Nat.{le-of-eq}
 use native.Mathlib.Omega.{arith}
-use lib.Dec.{ltb, leb, eqb·suc-zero}
+use lib.Dec.{ltb, leb}
 use lib.ListN.{length, drop, length-drop, length-replicate}
 use lib.Seq.{length-take-le}
 use borrow.Author.Tests.{leb-true, ltb-true, lt-ltb, le-leb}
 use Rattle.laws.specs.Steps.{steps}
 use Rattle.laws.proofs.Tests.{both, every, in-range}
 use Rattle.frames.specs.Part.{mostPorts, frameLen, toldLen}
-use Rattle.ports.specs.Modes.{modeOf}
+use Rattle.ports.specs.Modes.{diagonalMode, modeOf}
 use Rattle.ports.specs.declared.state.State.{State}
 use Rattle.ports.specs.declared.answer.Stepped.{Stepped}
 use Rattle.lcf.specs.Advance.{advance}
 use Rattle.shelf.specs.Unanswered.{justRoom, unanswered}
-use Rattle.demands.specs.Numbers.{WrongLimit}
 use Rattle.demands.specs.Refusal.{InOrder}
 use Rattle.demands.specs.SlotCall.{SlotCall, called, number}
 use Rattle.demands.proofs.Refusal.{advance-valid}
+use Rattle.demands.proofs.SlotCalls.{limit-exactly}
 use Rattle.demands.proofs.SlotServed.{served-in-order, served-advances}
 use Rattle.trace_parts.specs.Layout.{blockLen, mostMode}
 use Rattle.trace_parts.specs.Body.{fieldsOf, formed, bodySound, readFields, blockAt, hasBlock, blockPart}
 use Rattle.trace_parts.proofs.BodyLaws.{Sound, sound, is-complete, block, least-body}
 use Rattle.replays.specs.Replay.{startState, replaySlot, stateBefore, replayed}
-
-small-limit : (m mode : ℕ) → mode ≤ m → WrongLimit m (modeOf mode) → ⊥
-unfolding modeOf
-small-limit m zero h w = w
-small-limit m (suc mode) h w = ⊎-elim (λ l. omega arith) (λ l. omega arith) (rw (eqb·suc-zero mode) at w)
 
 module _ (n slots first : ℕ) (body : List ℕ) (is-sound : bodySound mostPorts n slots body ≡ true) where
   known : Sound mostPorts n slots body
@@ -44,13 +38,13 @@ module _ (n slots first : ℕ) (body : List ℕ) (is-sound : bodySound mostPorts
       let some : leb 3 (length body) ≡ true = le-leb 3 (length body) (omega (arith, whole .long, least-body n slots)) in
       rw (in-range (whole .some) (whole .ports), some, known .form)
 
-  mode-most : fieldsOf body .mode ≤ mostPorts
+  mode-most : fieldsOf body .mode ≤ diagonalMode mostPorts
   unfolding formed mostMode
-  mode-most = leb-true _ _ (both (leb (fieldsOf body .mode) mostPorts) _ (known .form) .0)
+  mode-most = leb-true _ _ (both (leb (fieldsOf body .mode) (mostMode n)) _ (known .form) .0)
 
   -- slot k as a call
   abbrev call : ℕ → State → SlotCall
-  call k st = record { slot = st .due; mode = modeOf (readFields mostPorts n body .fields .mode); block = blockPart mostPorts n slots k body; link = 0; out = justRoom st }
+  call k st = record { slot = st .due; mode = modeOf mostPorts (readFields mostPorts n body .fields .mode); block = blockPart mostPorts n slots k body; link = 0; out = justRoom st }
 
   as-called : (k : ℕ) (st : State) → replaySlot mostPorts n slots body k st ≡ called mostPorts st (call k st)
   unfolding replaySlot unanswered
@@ -69,7 +63,7 @@ module _ (n slots first : ℕ) (body : List ℕ) (is-sound : bodySound mostPorts
   -- a state of n ports that is in order is served, and advanced
   serves-one : (k : ℕ) (st : State) → k < slots → InOrder mostPorts st → st .ports ≡ n → number mostPorts st (call k st) ≡ 0
   serves-one k st l o same =
-      served-in-order mostPorts st (call k st) o refl (λ w. small-limit mostPorts _ mode-most (rw read at w))
+      served-in-order mostPorts st (call k st) o refl (λ w. omega (arith, mode-most, limit-exactly mostPorts (fieldsOf body .mode) .0 (rw read at w)))
       (block-long k l ∙ ap (λ (p : ℕ). p * frameLen p) (sym same)) (le-of-eq (sym (length-replicate (st .ports * toldLen (st .ports)) 0)))
 
   pub record There (k : ℕ) : Type 0 where

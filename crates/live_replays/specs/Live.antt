@@ -19,7 +19,7 @@ liveState m calls = steps (λ k st. next m st (calls k))
 pub record Served (m mode : ℕ) (calls : ℕ → SlotCall) (st : State) (slots : ℕ) : Type 0 where
   pub some : 1 ≤ slots
   pub most : slots ≤ mostSlots (st .ports)
-  pub one-mode : (k : ℕ) → k < slots → calls k .mode ≡ modeOf mode
+  pub one-mode : (k : ℕ) → k < slots → calls k .mode ≡ modeOf m mode
   pub served : (k : ℕ) → k < slots → number m (liveState m calls st k) (calls k) ≡ 0
   pub slot-words : (k : ℕ) → k < slots → calls k .slot < 2 ^ 32
   pub due-word : st .due < 2 ^ 32

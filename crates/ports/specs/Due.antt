@@ -5,7 +5,7 @@ use lib.Dec.{ltb, leb}
 use lib.ListN.{replicate}
 use Rattle.ports.specs.declared.state.State.{State}
 use Rattle.ports.specs.declared.state.Mode.{Mode}
-use Rattle.ports.specs.declared.state.Mode.the-variants.{Central, Distributed}
+use Rattle.ports.specs.declared.state.Mode.the-variants.{Central, Distributed, Diagonal}
 use Rattle.ports.specs.declared.answer.Stepped.{Stepped}
 
 -- how far the slot is behind the one due, modulo 2 ^ 32
@@ -16,6 +16,7 @@ behind st slot = (st .due + 2 ^ 32 - slot) % 2 ^ 32
 unfoldable pub wrongLimit : ℕ → Mode → Bool
 wrongLimit m Central = false
 wrongLimit m (Distributed limit) = ltb limit 1 || ltb m limit
+wrongLimit m Diagonal = false
 
 -- the numbers 1 to 5, on shelves of at most m ports; 0 if none applies
 unfoldable pub dueNumber : ℕ → State → ℕ → Mode → ℕ

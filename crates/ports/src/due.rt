@@ -17,6 +17,7 @@ fn wrong_limit(mode: Mode) -> bool
     match mode {
         Mode::Central => false,
         Mode::Distributed(limit) => (limit < 1) | ((State::MOST as u32) < limit),
+        Mode::Diagonal => false,
     }
 }
 

@@ -31,17 +31,21 @@ pub enum Mode {
     Central,
     // With its round limit.
     Distributed(u32),
+    // All diagonal positions before others.
+    Diagonal,
 }
 
 // The mode that a number names.
 pub fn mode_of(mode: u32) -> Mode
-    ensures { λ r. ⌜ r ≡ modeOf mode ⌝ }
+    ensures { λ r. ⌜ r ≡ modeOf mostPorts mode ⌝ }
 {
     if mode == 0 {
-        Mode::Central
-    } else {
-        Mode::Distributed(mode)
+        return Mode::Central;
     }
+    if mode == State::MOST as u32 + 1 {
+        return Mode::Diagonal;
+    }
+    Mode::Distributed(mode)
 }
 
 // A fresh state, or number 1 and a state of zeros.

@@ -49,10 +49,10 @@ module _ (m : ℕ) (state : List ℕ) (d : CCall) where
   st = stateOf state
 
   abbrev answer : Answer
-  answer = frames.called m st (onFrames d) .answer
+  answer = frames.called m st (onFrames m d) .answer
 
   small : answer .number < 256
-  small = omega (arith, number-most m st (onFrames d))
+  small = omega (arith, number-most m st (onFrames m d))
 
   -- all that was lent is as it was; and as a served call leaves it
   abbrev pub unchanged : ℕ → Left
@@ -62,8 +62,8 @@ module _ (m : ℕ) (state : List ℕ) (d : CCall) where
   changed =
       record {
         word = wordOf answer;
-        state = stateBytes (frames.next m st (onFrames d)) ++ drop (d .handed .lent) state;
-        out = frames.outputAfter m st (onFrames d);
+        state = stateBytes (frames.next m st (onFrames m d)) ++ drop (d .handed .lent) state;
+        out = frames.outputAfter m st (onFrames m d);
         table = row 2 (answer .sets);
       }
 
@@ -99,7 +99,7 @@ module _ (m : ℕ) (state : List ℕ) (d : CCall) where
       declined : (answer .number ≡ 0 → ⊥) → d .left ≡ unchanged (answer .number)
       unfolding slotWord slotState slotTable slotOutput run stateAfter tableAfter
       declined some =
-          let (nothing, same) = declined-does-nothing m st (onFrames d) some in
+          let (nothing, same) = declined-does-nothing m st (onFrames m d) some in
           let word : wordOf answer ≡ answer .number = omega (arith, nothing .no-rounds) in
           kept ∙ rw (right-fit right, same-bytes, ne-eqb (answer .number) 0 some, take-append-drop, same) (ap unchanged word)
 
@@ -137,9 +137,9 @@ module _ (m : ℕ) (state : List ℕ) (d : CCall) where
       on-frames = none;
       same-state = ap (λ (l : Left). stateOf (l .state)) left
           ∙ front (stateBytes after) (drop (d .handed .lent) state) (length-state after)
-          ∙ state-reads-back after (valid-fits m most after (rw (served-advances m st (onFrames d) none) (advance-valid m st in-order)));
+          ∙ state-reads-back after (valid-fits m most after (rw (served-advances m st (onFrames m d) none) (advance-valid m st in-order)));
       same-table = λ i t. ap (λ (l : Left). holds (l .table) i t) left
-          ∙ holds-asks (answer .sets) (λ k. lt-of-lt-of-le (row-small m most st (onFrames d) none k) (pow-mono most)) i t;
+          ∙ holds-asks (answer .sets) (λ k. lt-of-lt-of-le (row-small m most st (onFrames m d) none k) (pow-mono most)) i t;
       same-output = ap (λ (l : Left). l .out) left;
       same-rounds = ap roundsIn left ∙ word-rounds answer small;
     }
@@ -151,7 +151,7 @@ module _ (m : ℕ) (state : List ℕ) (d : CCall) where
         left = done (served-lengths served) none
 
         after : State
-        after = frames.next m st (onFrames d)
+        after = frames.next m st (onFrames m d)
 
         in-order : InOrder m st
-        in-order = tables.served-call m st (frames.onTables m st (onFrames d)) (same-number m st (onFrames d) none) .in-order
+        in-order = tables.served-call m st (frames.onTables m st (onFrames m d)) (same-number m st (onFrames m d) none) .in-order

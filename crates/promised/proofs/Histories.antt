@@ -33,7 +33,7 @@ module _ (m : ℕ) (most : m ≤ mostPorts) where
   advances : (state : List ℕ) (d : CCall) → Kept m state d → number d ≡ 0 → stateOf (next state d) ≡ advance (stateOf state)
   advances state d kept done =
       let r = served-call m state d kept most done in
-      r .same-state ∙ served-advances m (stateOf state) (onFrames d) (r .on-frames)
+      r .same-state ∙ served-advances m (stateOf state) (onFrames m d) (r .on-frames)
 
   c-moves : Moves stateOf (Kept m) next served
   c-moves = record {
@@ -44,26 +44,26 @@ module _ (m : ℕ) (most : m ≤ mostPorts) where
   -- whom slot calls on frames are fair to, C calls are
   pub c-fair : (i t : ℕ) {Waits : State → frames.SlotCall → Type 0} {Favours : State → Type 0}
       → Fair (λ st. st) ByValue (frames.next m) (frames.served m) (on-frames.connects m i t) Waits Favours
-      → Fair stateOf (Kept m) next served (connects i t) (λ state d. Waits (stateOf state) (onFrames d)) Favours
+      → Fair stateOf (Kept m) next served (connects i t) (λ state d. Waits (stateOf state) (onFrames m d)) Favours
   c-fair i t fair = record {
     moves = c-moves;
     favours = λ state d kept e w f.
         let r = served-call m state d kept most (eqb-true _ 0 e) in
-        let hit = fair .favours (stateOf state) (onFrames d) tt (eq-eqb _ 0 (r .on-frames)) w f in
-        rw (e, r .same-table i t, r .same-output) (both (frames.served m (stateOf state) (onFrames d)) _ hit .1);
+        let hit = fair .favours (stateOf state) (onFrames m d) tt (eq-eqb _ 0 (r .on-frames)) w f in
+        rw (e, r .same-table i t, r .same-output) (both (frames.served m (stateOf state) (onFrames m d)) _ hit .1);
   }
 
   demanded : (state : List ℕ) (d : CCall) → Kept m state d → Valid m (stateOf state) → Demanded m state d
   demanded state d kept v = record {
     wrong-lengths = wrong-lengths m state d kept;
-    number-by-table = λ right. number-by-table m (stateOf state) (onFrames d) (number d) .0 (sym (number-there m state d kept right));
+    number-by-table = λ right. number-by-table m (stateOf state) (onFrames m d) (number d) .0 (sym (number-there m state d kept right));
     other-declined = λ right slot< other. let is = number-there m state d kept right in
-        ⊎-elim (λ e. inl (is ∙ e)) (λ e. inr (is ∙ e)) (other-declined m (stateOf state) (onFrames d) slot< (v .due-small) (v .in-order) other);
+        ⊎-elim (λ e. inl (is ∙ e)) (λ e. inr (is ∙ e)) (other-declined m (stateOf state) (onFrames m d) slot< (v .due-small) (v .in-order) other);
     declined-keeps = λ some. let same = declined-keeps m state d kept some in
         (ap (λ (l : Left). l .state) same, ap (λ (l : Left). l .out) same, ap (λ (l : Left). l .table) same, ap roundsIn same ∙ omega arith);
     served-advances = advances state d kept;
     no-target-twice = λ done i j t p q. let same = served-call m state d kept most done .same-table in
-        no-target-twice m (stateOf state) (onFrames d) i j t (sym (same i t) ∙ p) (sym (same j t) ∙ q);
+        no-target-twice m (stateOf state) (onFrames m d) i j t (sym (same i t) ∙ p) (sym (same j t) ∙ q);
   }
 
   module _ (state : List ℕ) (calls : List CCall) (kept : InEach next (Kept m) state calls) where
@@ -83,4 +83,4 @@ module _ (m : ℕ) (most : m ≤ mostPorts) where
       → again .handed .slot ≡ d .handed .slot → number again ≡ 3
   resent-stale state d again calls kept all kept-again right bytes done slot< few same =
       number-there m _ again kept-again right
-      ∙ stale-again c-moves m state d calls (onFrames d) (onFrames again) kept all (eq-eqb _ 0 done) (served-call m state d kept most done .on-frames) (due-small state bytes) slot< few same
+      ∙ stale-again c-moves m state d calls (onFrames m d) (onFrames m again) kept all (eq-eqb _ 0 done) (served-call m state d kept most done .on-frames) (due-small state bytes) slot< few same

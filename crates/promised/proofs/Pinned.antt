@@ -1,41 +1,33 @@
 -- What pins the C form's definitions down: the mode, the rounds, a fresh state's bytes, and that qen is unused.
 use mathlib.Core.Path.{_≡_, sym, ap, subst, _∙_}
-use mathlib.Core.Logic.{inr, ⊎-elim, _↔_}
 use mathlib.Core.List.{List, _∷_}
-use Prim.Native.Nat.{ℕ, zero, suc, _*_, _^_, _≤_, _<_}
+use Prim.Native.Nat.{ℕ, _*_, _^_, _≤_, _<_}
 use native.Mathlib.Omega.{arith}
-use lib.Dec.{eqb·suc-zero}
 use lib.ListN.{length, take}
 use Rattle.laws.specs.Bytes.{bigEndian}
 use Rattle.laws.proofs.Bytes.{number-big}
 use Rattle.frames.specs.Part.{mostPorts, frameLen, toldLen}
-use Rattle.ports.specs.Modes.{modeOf}
+use Rattle.ports.specs.Modes.{diagonalMode, modeOf}
 use Rattle.ports.specs.Ready.{fresh}
 use Rattle.ports.specs.declared.state.State.{State}
 use Rattle.ports.specs.declared.state.Fresh.{Fresh}
 use Rattle.ports.proofs.Started.{fresh-is}
-use Rattle.demands.specs.Numbers.{WrongLimit}
 use Rattle.demands.specs.Block.{QenAlone}
 use Rattle.demands.specs.SlotCall as frames
 use Rattle.demands.specs.Rounds.{HasRounds}
 use Rattle.demands.proofs.Qen.{qen-unused, qen-unused-output}
+use Rattle.demands.proofs.SlotCalls.{limit-exactly}
 use Rattle.demands.proofs.Rounds.{rounds-run}
 use Rattle.demands.proofs.Started.{fresh-serves}
 use Rattle.bellacush.specs.Slot.{stateOf, fits, run, slotWord, slotState, slotTable, slotOutput}
 use Rattle.promised.specs.Call.{Handed, CCall, promise, Kept, number, rounds, onFrames, Lengths}
 use Rattle.promised.proofs.Calls.{number-there, served-call}
 
--- A mode is a wrong limit exactly if it is above m.
-pub limit-exactly : (m mode : ℕ) → WrongLimit m (modeOf mode) ↔ (m < mode)
-unfolding modeOf
-limit-exactly m zero = (λ wrong. absurd wrong, λ above. omega arith)
-limit-exactly m (suc k) = rw (eqb·suc-zero k) (⊎-elim (λ l. omega arith) (λ l. l), inr)
-
 -- The rounds in a served call's word are those of rule 6.
-pub rounds-in-word : (m : ℕ) → m ≤ mostPorts → (state : List ℕ) (d : CCall) → Kept m state d → number d ≡ 0 → HasRounds m (stateOf state) (onFrames d) (rounds d)
+pub rounds-in-word : (m : ℕ) → m ≤ mostPorts → (state : List ℕ) (d : CCall) → Kept m state d → number d ≡ 0 → HasRounds m (stateOf state) (onFrames m d) (rounds d)
 rounds-in-word m most state d kept done =
     let r = served-call m state d kept most done in
-    subst (HasRounds m (stateOf state) (onFrames d)) (sym (r .same-rounds)) (rounds-run m (stateOf state) (onFrames d) (r .on-frames))
+    subst (HasRounds m (stateOf state) (onFrames m d)) (sym (r .same-rounds)) (rounds-run m (stateOf state) (onFrames m d) (r .on-frames))
 
 -- With another qen in the block, a call leaves the same word and the same bytes.
 abbrev pub withBlock : Handed → List ℕ → Handed
@@ -46,7 +38,7 @@ pub qen-unused-in-bytes : (m : ℕ) (state : List ℕ) (c : Handed) (other : Lis
 unfolding slotWord slotState slotTable slotOutput run fits
 qen-unused-in-bytes m state c other alone =
     let st = stateOf (take (c .lent) state) in
-    rw (qen-unused m st (c .slot) (modeOf (c .mode)) (c .block) other (c .link) (c .out) alone, qen-unused-output m st (c .slot) (modeOf (c .mode)) (c .block) other (c .link) (c .out) alone)
+    rw (qen-unused m st (c .slot) (modeOf m (c .mode)) (c .block) other (c .link) (c .out) alone, qen-unused-output m st (c .slot) (modeOf m (c .mode)) (c .block) other (c .link) (c .out) alone)
 
 -- n, two zeros and four bytes are a fresh state. A call in order on them is served in the slot that they name.
 module _ (m n due : ℕ) (some : 1 ≤ n) (most : n ≤ m) (due< : due < 2 ^ 32) where
@@ -57,9 +49,9 @@ module _ (m n due : ℕ) (some : 1 ≤ n) (most : n ≤ m) (due< : due < 2 ^ 32)
       (λ k. record { ports = n; initiator = record { 0 = 0 }; target = record { 0 = 0 }; due = d k }) ∙ ap (λ (f : Fresh). f .state) (sym (fresh-is m n due some most))
 
   pub fresh-serves-in-bytes : (d : CCall) → let state = n ∷ 0 ∷ 0 ∷ bigEndian 4 due in
-      Kept m state d → Lengths m state d → d .handed .slot ≡ due → d .handed .mode ≤ m → length (d .handed .block) ≡ n * frameLen n → n * toldLen n ≤ length (d .handed .out)
+      Kept m state d → Lengths m state d → d .handed .slot ≡ due → d .handed .mode ≤ diagonalMode m → length (d .handed .block) ≡ n * frameLen n → n * toldLen n ≤ length (d .handed .out)
       → number d ≡ 0
   fresh-serves-in-bytes d kept right named mode block out =
       number-there m _ d kept right
-      ∙ ap (λ (st : State). frames.number m st (onFrames d)) fresh-bytes
-      ∙ fresh-serves m n due some most (onFrames d) named (λ wrong. omega (arith, limit-exactly m (d .handed .mode) .0 wrong)) block out
+      ∙ ap (λ (st : State). frames.number m st (onFrames m d)) fresh-bytes
+      ∙ fresh-serves m n due some most (onFrames m d) named (λ wrong. omega (arith, limit-exactly m (d .handed .mode) .0 wrong)) block out

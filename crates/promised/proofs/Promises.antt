@@ -16,5 +16,6 @@ pub use Rattle.promised.proofs.Pinned.{rounds-in-word}
 pub use Rattle.promised.proofs.Histories.{share}
 -- What pins the definitions down: a state and a word read back; the mode; qen is unused; cases F and I as C calls, byte for byte.
 pub use Rattle.bellacush.proofs.Trips.{state-reads-back, due-small, word-number, word-rounds}
-pub use Rattle.promised.proofs.Pinned.{limit-exactly, qen-unused-in-bytes}
+pub use Rattle.demands.proofs.SlotCalls.{limit-exactly}
+pub use Rattle.promised.proofs.Pinned.{qen-unused-in-bytes}
 pub use Rattle.promised.proofs.Worked.{worked}

@@ -1,4 +1,4 @@
--- Cases F and I of document 01 as C calls, byte for byte: one computed statement over the definitions.
+-- Cases F, I and, diagonal first, E of document 01 as C calls, byte for byte: one computed statement over the definitions.
 use mathlib.Core.Path.{_≡_, refl}
 use mathlib.Core.List.{List, [], _∷_, _++_}
 use Prim.Native.Nat.{ℕ, _-_, _*_}
@@ -19,6 +19,7 @@ use Rattle.lcf.specs.Choice.{choice}
 use Rattle.lcf.specs.Join.{join, joinLive}
 use Rattle.lcf.specs.Planned.{planner, give, planned, start}
 use Rattle.lcf.specs.Central.{fewest, winner, serve}
+use Rattle.lcf.specs.Diagonal.{diagonalFirst}
 use Rattle.lcf.specs.Distributed.{askers, grants, offers, accepted, answer, round, oneMore, distributed}
 use Rattle.lcf.specs.Advance.{advance}
 use Rattle.lcf.specs.Slot.{serveMode, matched, ended, slotOnTables}
@@ -50,6 +51,14 @@ caseI =
     ++ (1 ∷ 0 ∷ 7 ∷ 0 ∷ 0 ∷ 0 ∷ 15 ∷ 1 ∷ 2 ∷ 213 ∷ 87 ∷ [])
     ++ (1 ∷ 0 ∷ 4 ∷ 0 ∷ 0 ∷ 0 ∷ 15 ∷ 1 ∷ 2 ∷ 13 ∷ 213 ∷ []))
 
+-- E, diagonal first, in which the pair (1, 1) has its turn
+abbrev pub caseE : Handed
+caseE =
+    slotOf 7 17
+    ((1 ∷ 0 ∷ 0 ∷ 0 ∷ 0 ∷ 0 ∷ 15 ∷ 1 ∷ 2 ∷ 204 ∷ 19 ∷ [])
+    ++ (1 ∷ 0 ∷ 3 ∷ 0 ∷ 0 ∷ 0 ∷ 15 ∷ 1 ∷ 2 ∷ 20 ∷ 145 ∷ [])
+    ++ (1 ∷ 0 ∷ 0 ∷ 0 ∷ 0 ∷ 0 ∷ 15 ∷ 1 ∷ 2 ∷ 204 ∷ 19 ∷ []))
+
 pub worked : (promise mostPorts (4 ∷ 3 ∷ 1 ∷ 1 ∷ 2 ∷ 3 ∷ 4 ∷ 77 ∷ []) caseF
     ≡ record {
       word = 0;
@@ -64,5 +73,12 @@ pub worked : (promise mostPorts (4 ∷ 3 ∷ 1 ∷ 1 ∷ 2 ∷ 3 ∷ 4 ∷ 77 �
       out = (3 ∷ 0 ∷ 1 ∷ 0 ∷ 2 ∷ 232 ∷ 172 ∷ 3 ∷ 1 ∷ 3 ∷ 0 ∷ 1 ∷ 192 ∷ 27 ∷ 3 ∷ 2 ∷ 1 ∷ 0 ∷ 4 ∷ 101 ∷ 2 ∷ []) ++ replicate 8 9;
       table = 0 ∷ 2 ∷ 0 ∷ 1 ∷ 0 ∷ 4 ∷ replicate (mostPorts * 2 - 6) 0;
     })
-unfolding ones trailingZeros steps bigEndian numberFrom crcBit crcByte crcFrom intact formNumber configOf heldFrame hostNumber present counted choice join joinLive planner give planned fewest winner serve askers grants offers accepted answer round oneMore distributed advance within start serveMode matched behind wrongLimit dueNumber declined ended slotOnTables said hostsOf grantFor granted refusal slotOnHosts stepped output stateOf stateBytes modeOf stateAfter tableAfter fits run slotWord slotState slotTable slotOutput
-worked = (refl, refl)
+    × (promise mostPorts (3 ∷ 0 ∷ 0 ∷ 0 ∷ 0 ∷ 0 ∷ 7 ∷ []) caseE
+    ≡ record {
+      word = 0;
+      state = 3 ∷ 1 ∷ 0 ∷ 0 ∷ 0 ∷ 0 ∷ 8 ∷ [];
+      out = (3 ∷ 0 ∷ 0 ∷ 0 ∷ 0 ∷ 255 ∷ 222 ∷ 3 ∷ 1 ∷ 3 ∷ 0 ∷ 2 ∷ 240 ∷ 120 ∷ 3 ∷ 2 ∷ 0 ∷ 0 ∷ 0 ∷ 18 ∷ 182 ∷ []) ++ replicate 8 9;
+      table = 0 ∷ 0 ∷ 0 ∷ 2 ∷ 0 ∷ 0 ∷ replicate (mostPorts * 2 - 6) 0;
+    })
+unfolding ones trailingZeros steps bigEndian numberFrom crcBit crcByte crcFrom intact formNumber configOf heldFrame hostNumber present counted choice join joinLive planner give planned fewest winner serve askers grants offers accepted answer round oneMore distributed diagonalFirst advance within start serveMode matched behind wrongLimit dueNumber declined ended slotOnTables said hostsOf grantFor granted refusal slotOnHosts stepped output stateOf stateBytes modeOf stateAfter tableAfter fits run slotWord slotState slotTable slotOutput
+worked = (refl, refl, refl)

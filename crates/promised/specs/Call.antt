@@ -66,9 +66,9 @@ next state d = d .left .state
 abbrev pub served : List ℕ → CCall → Bool
 served state d = eqb (number d) 0
 
--- the slot call on frames that it comes to
-abbrev pub onFrames : CCall → SlotCall
-onFrames d = let c = d .handed in record { slot = c .slot; mode = modeOf (c .mode); block = c .block; link = c .link; out = c .out }
+-- the slot call on frames that it comes to, on shelves of at most m ports
+abbrev pub onFrames : ℕ → CCall → SlotCall
+onFrames m d = let c = d .handed in record { slot = c .slot; mode = modeOf m (c .mode); block = c .block; link = c .link; out = c .out }
 
 -- seven bytes of the state are lent, and two of the table for each of m sets
 pub record Lengths (m : ℕ) (state : List ℕ) (d : CCall) : Type 0 where

@@ -14,16 +14,16 @@ use Rattle.promised.specs.Share.{holds}
 
 -- a served C call is a served slot call on frames: what is proved of that one holds of these bytes
 pub record Served (m : ℕ) (state : List ℕ) (d : CCall) : Type 0 where
-  pub on-frames : frames.number m (stateOf state) (onFrames d) ≡ 0
-  pub same-state : stateOf (d .left .state) ≡ frames.next m (stateOf state) (onFrames d)
-  pub same-table : (i t : ℕ) → holds (d .left .table) i t ≡ asks (frames.sets m (stateOf state) (onFrames d)) i t
-  pub same-output : d .left .out ≡ frames.outputAfter m (stateOf state) (onFrames d)
-  pub same-rounds : rounds d ≡ frames.called m (stateOf state) (onFrames d) .answer .rounds
+  pub on-frames : frames.number m (stateOf state) (onFrames m d) ≡ 0
+  pub same-state : stateOf (d .left .state) ≡ frames.next m (stateOf state) (onFrames m d)
+  pub same-table : (i t : ℕ) → holds (d .left .table) i t ≡ asks (frames.sets m (stateOf state) (onFrames m d)) i t
+  pub same-output : d .left .out ≡ frames.outputAfter m (stateOf state) (onFrames m d)
+  pub same-rounds : rounds d ≡ frames.called m (stateOf state) (onFrames m d) .answer .rounds
 
 pub record Demanded (m : ℕ) (state : List ℕ) (d : CCall) : Type 0 where
   -- wrong lengths get 8, and all other calls the number of document 01's table
   pub wrong-lengths : (Lengths m state d → ⊥) → number d ≡ 8
-  pub number-by-table : Lengths m state d → Table m (stateOf state) (onFrames d) (number d)
+  pub number-by-table : Lengths m state d → Table m (stateOf state) (onFrames m d) (number d)
   -- a slot other than the one due gets 3 or 4
   pub other-declined : Lengths m state d → d .handed .slot < 2 ^ 32 → (d .handed .slot ≡ stateOf state .due → ⊥) → (number d ≡ 3) ⊎ (number d ≡ 4)
   -- a declined call keeps every lent byte, and reports no round

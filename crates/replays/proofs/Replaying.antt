@@ -27,7 +27,7 @@ use Rattle.replays.specs.Tables.{tableAt, allTables, allLen}
 length-table : (m : ℕ) (sets : List ℕ) → length (tableBytes m sets) ≡ tableLen m
 length-table m sets = length-parts (λ i. bigEndian 2 (getD sets i 0)) 2 (λ i. length-big 2 (getD sets i 0)) m
 
-pub slot-replayed : (m n slots : ℕ) (body : List ℕ) (k : ℕ) (st : State) (read : FieldsRead) (mode : Mode) (block : List ℕ) (r : Stepped) → read ≡ readFields m n body → mode ≡ modeOf (read .fields .mode)
+pub slot-replayed : (m n slots : ℕ) (body : List ℕ) (k : ℕ) (st : State) (read : FieldsRead) (mode : Mode) (block : List ℕ) (r : Stepped) → read ≡ readFields m n body → mode ≡ modeOf m (read .fields .mode)
     → block ≡ blockPart m n slots k body → r ≡ unanswered m st (st .due) mode block → r ≡ replaySlot m n slots body k st
 unfolding replaySlot
 slot-replayed m n slots body k st read mode block r is-read is-mode is-block e = rw (← is-read, ← is-mode, ← is-block) e

@@ -17,7 +17,7 @@ startState m n body first =
 module _ (m n slots : ℕ) (body : List ℕ) where
   -- slot k at the state st: what the slot due gives on the block recorded
   unfoldable pub replaySlot : ℕ → State → Stepped
-  replaySlot k st = unanswered m st (st .due) (modeOf (readFields m n body .fields .mode)) (blockPart m n slots k body)
+  replaySlot k st = unanswered m st (st .due) (modeOf m (readFields m n body .fields .mode)) (blockPart m n slots k body)
 
   -- the state before slot k
   unfoldable pub stateBefore : ℕ → ℕ → State

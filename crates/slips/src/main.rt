@@ -53,6 +53,17 @@ fn rounds(label: u64, n: usize, i: usize, j: usize, limit: u32, req: u16) {
     );
 }
 
+fn first(label: u64, n: usize, i: usize, j: usize, req: u16, pre: u16) {
+    show(
+        label,
+        at(n, i, j),
+        SLOT,
+        Mode::Diagonal,
+        rows(req),
+        rows(pre),
+    );
+}
+
 fn hear(label: u64, n: usize, heard: u16, ben: u16, req: u16, pre: u16) {
     let t = hearing::counted(n, heard, rows(ben), rows(req), rows(pre));
     let req = t.req;
@@ -202,6 +213,15 @@ fn one_vote() {
     hear(49, 3, 7, 0x770, 0x421, 0);
 }
 
+fn diagonal() {
+    // The diagonal begins at (I, J), not at (J, I).
+    first(50, 3, 1, 0, 0x702, 0);
+    // The central form serves the rest.
+    first(51, 2, 0, 0, 0x2, 0);
+    // A pair whose request is not live is not joined.
+    first(52, 2, 0, 0, 0x20, 0x2);
+}
+
 fn main() {
     planned();
     central();
@@ -214,4 +234,5 @@ fn main() {
     offsets();
     limits();
     one_vote();
+    diagonal();
 }

@@ -8,9 +8,9 @@ use Rattle.frames.specs.Part.{mostPorts, frameLen}
 unfoldable pub blockLen : ℕ → ℕ
 blockLen n = n * frameLen n
 
--- the greatest mode: the greatest round limit
+-- the greatest mode: diagonal-first, after the greatest round limit
 unfoldable pub mostMode : ℕ → ℕ
-mostMode n = mostPorts
+mostMode n = mostPorts + 1
 
 -- the most slots in a body
 unfoldable pub mostSlots : ℕ → ℕ

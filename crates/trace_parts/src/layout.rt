@@ -24,7 +24,7 @@ impl Layout {
 pub(crate) fn most_mode(n: usize) -> usize
     ensures { λ r. ⌜ r ≡ mostMode n ⌝ }
 {
-    Ports::MOST
+    Ports::MOST + 1
 }
 
 pub(crate) fn most_slots(n: usize) -> u16

@@ -9,6 +9,7 @@ pub wrong-limit-spec : {M : Type 1} → statement M
 unfolding wrongLimit
 wrong-limit-spec =
     tie.close
-    (tie.spec (λ c. search needs) (λ c. search needs) (λ c. search needs)
+    (tie.spec (λ c. search needs) (λ c. search needs) (λ c. search needs) (λ c. search needs)
     (λ c. sym (ap (wrongLimit mostPorts) (c .enum-told .given .1)))
-    (λ c. sym (ap (wrongLimit mostPorts) (c .before .mode .given .1))))
+    (λ c. sym (ap (wrongLimit mostPorts) (c .before .mode .given .1)))
+    (λ c. sym (ap (wrongLimit mostPorts) (c .enum-told2 .given .1))))

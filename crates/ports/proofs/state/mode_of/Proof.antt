@@ -8,4 +8,6 @@ pub mode-of-spec : {M : Type 1} → statement M
 unfolding modeOf
 mode-of-spec =
     tie.close
-    (tie.spec (λ c. search (needs, eq-eqb)) (λ c. search (needs, ne-eqb)))
+    (tie.spec (λ c. search (needs, eq-eqb)) (λ c. search needs) (λ c. search needs)
+    (λ c. rw (ne-eqb _ 0 (c .before .if1 .left), eq-eqb _ _ (c .if2 .taken)))
+    (λ c. rw (ne-eqb _ 0 (c .before .if1 .left), ne-eqb _ _ (c .if2 .left))))

@@ -6,4 +6,4 @@ use Rattle.trace_parts.proofs.layout.most_mode.Tie as tie
 
 pub most-mode-spec : {M : Type 1} → statement M
 unfolding mostMode
-most-mode-spec = tie.close (tie.spec (λ c. search needs))
+most-mode-spec = tie.close (tie.spec (λ c. search needs) (λ c. search needs))
