@@ -4,7 +4,7 @@ use bellacush_tests::calls::{self, SlotCall};
 
 use crate::timing::compare;
 use crate::traces::{agree_but_for_grants, Player, Trace, FULL, HALF, LIGHT};
-use crate::{micro, most_stack, MODES, STACK_MODES};
+use crate::{micro, most_stack, EVERY_MODE};
 
 extern "C" {
     fn before_slot(
@@ -48,7 +48,7 @@ pub fn compared() {
     println!("|---|---|---|---|---|---|");
     for ports in [16, 4, 1] {
         for load in [FULL, HALF, LIGHT] {
-            for (mode, limit) in MODES.into_iter().filter(known) {
+            for (mode, limit) in EVERY_MODE.into_iter().filter(known) {
                 let trace = Trace::new(ports, load, limit);
                 // the archive before may write other grant frames
                 agree_but_for_grants(&trace, calls::slot, slot_before);
@@ -74,7 +74,7 @@ pub fn compared() {
 fn stacks() {
     println!("\n| Mode | Stack now, bytes | Before |");
     println!("|---|---|---|");
-    for (mode, limit) in STACK_MODES.into_iter().filter(known) {
+    for (mode, limit) in EVERY_MODE.into_iter().filter(known) {
         let (now, before) = (most_stack(calls::SLOT, limit), most_stack(BEFORE, limit));
         println!("| {mode} | {now} | {before} |");
     }

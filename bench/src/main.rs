@@ -246,14 +246,14 @@ fn stacks() {
     println!("and with plans, cleared votes and spoilt frames. Limit: {MOST_STACK} bytes, in a test too.\n");
     println!("| Mode | Bytes | Limit |");
     println!("|---|---|---|");
-    for (mode, limit) in STACK_MODES {
+    for (mode, limit) in EVERY_MODE {
         let bytes = most_stack(calls::SLOT, limit);
         let met = if bytes <= MOST_STACK { "met" } else { "missed" };
         println!("| {mode} | {bytes} | {met} |");
     }
 }
 
-const STACK_MODES: [(&str, u32); 4] = [MODES[0], MODES[1], ("distributed, limit 16", 16), MODES[2]];
+const EVERY_MODE: [(&str, u32); 4] = [MODES[0], MODES[1], ("distributed, limit 16", 16), MODES[2]];
 
 fn most_stack(call: SlotCall, limit: u32) -> usize {
     let mixed = Traffic {
@@ -273,7 +273,7 @@ mod tests {
 
     #[test]
     fn a_slot_keeps_to_its_stack() {
-        for (mode, limit) in STACK_MODES {
+        for (mode, limit) in EVERY_MODE {
             let bytes = most_stack(calls::SLOT, limit);
             assert!(bytes <= MOST_STACK, "{mode}: {bytes} bytes of stack");
         }

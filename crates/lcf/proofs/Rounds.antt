@@ -2,8 +2,8 @@
 use mathlib.Core.Path.{_≡_, refl, sym, ap, _∙_}
 use mathlib.Core.Bool.{Bool, true, false, _&&_, cond, and-true, and-false}
 use mathlib.Core.List.{List}
-use Prim.Native.Nat.{ℕ, zero, suc, _≤_, _<_}
-use native.Mathlib.Nat.{lt-of-lt-of-le}
+use Prim.Native.Nat.{ℕ, zero, suc, _-_, _≤_, _<_}
+use native.Mathlib.Nat.{lt-of-lt-of-le, add-sub-of-le}
 use native.Mathlib.Omega.{arith}
 use borrow.Author.Tests.{eqb-true, eqb-false}
 use lib.Dec.{eqb}
@@ -11,13 +11,14 @@ use lib.ListN.{length, getD, set, replicate, length-set, length-replicate}
 use lib.Seq.{getD-set-same, getD-set-other}
 use Rattle.laws.specs.Steps.{steps}
 use Rattle.laws.specs.Sets.{asks, with, column, sizes, gathered}
-use Rattle.laws.proofs.Loops.{same-steps, done}
+use Rattle.laws.proofs.Loops.{same-steps, stays, done}
 use Rattle.laws.proofs.Rows.{row-tabled, no-bits}
 use Rattle.ports.specs.declared.state.State.{State}
 use Rattle.lcf.specs.Central.{fewest}
-use Rattle.lcf.specs.Distributed.{askers, grants, offers, accepted, answer, answered}
+use Rattle.lcf.specs.Distributed.{askers, grants, offers, accepted, answer, answered, anyLive, oneMore, rounds}
 use Rattle.lcf.specs.Offers.{granted, offer, offering, Offers, accept}
 use Rattle.lcf.specs.declared.work.Work.{Work}
+use Rattle.lcf.specs.declared.work.Run.{Run}
 
 -- an offer to g reaches row i if g is i
 reaches : (rows live : List ℕ) (g i t : ℕ) {s : ℕ} → i < length rows → getD rows i 0 ≡ s
@@ -59,3 +60,8 @@ pub all-answered : (st : State) (live offered counts : List ℕ) (k : ℕ) (x : 
     → u ≡ steps (λ i. accept st counts (getD offered i 0) i) x k → k ≤ st .ports → st .ports ≤ k → u ≡ answered st live (askers st live) (grants st live) x (st .ports)
 unfolding accept answer accepted
 all-answered st live offered counts k x o c e l g = done _ _ (st .ports) k e l g ∙ same-steps _ _ x (st .ports) (λ i r b. rw (c, o i b))
+
+-- once nothing is live, more rounds change nothing
+pub at-rest : (st : State) (x : Run) (k limit : ℕ) {u : Run} → u ≡ rounds st x k → k ≤ limit → anyLive (u .work .live) (st .ports) ≡ false → u ≡ rounds st x limit
+unfolding oneMore
+at-rest st x k limit {u} e l h = rw (← add-sub-of-le l) (e ∙ sym (stays _ x k (limit - k) (λ j _. rw (← e, h))))

@@ -17,6 +17,7 @@ use ports::Table;
 use ports::Target;
 use words::holds;
 ghost use mathlib.Core.Path.{_≡_};
+ghost use mathlib.Core.Bool.{true};
 ghost use Prim.Native.Nat.{_+_, _<_, _≤_};
 ghost use Rattle.frames.specs.Part.{mostPorts};
 ghost use Rattle.ports.specs.Ready.{Ready};
@@ -102,18 +103,12 @@ pub(crate) fn any_live(live: Table, n: usize) -> bool
 }
 
 fn one_more(state: State, run: Run) -> Run
-    requires { ⌜ (Ready mostPorts state) × (run .rounds < mostPorts) ⌝ }
+    requires { ⌜ (Ready mostPorts state) × (run .rounds < mostPorts) × (anyLive (run .work .live) (state .ports) ≡ true) ⌝ }
     ensures { λ r. ⌜ (r ≡ oneMore state run) × (r .rounds ≤ run .rounds + 1) ⌝ }
 {
-    let work = run.work;
-    let live = work.live;
-    if any_live(live, state.ports) {
-        Run {
-            work: round(state, work),
-            rounds: run.rounds + 1,
-        }
-    } else {
-        run
+    Run {
+        work: round(state, run.work),
+        rounds: run.rounds + 1,
     }
 }
 
@@ -131,6 +126,7 @@ fn favoured(state: State, work: Work) -> Work
     }
 }
 
+// It ends with the last live request: the turns that the limit still allows would change nothing, and cost time.
 pub(crate) fn distributed(state: State, limit: u32, work: Work) -> Run
     requires { ⌜ (Ready mostPorts state) × (limit ≤ mostPorts) ⌝ }
     ensures { λ r. ⌜ r ≡ distributed state limit work ⌝ }
@@ -140,7 +136,13 @@ pub(crate) fn distributed(state: State, limit: u32, work: Work) -> Run
         rounds: 0,
     };
     for k in 0..limit {
-        run = one_more(state, run);
+        let reached = run.work;
+        let live = reached.live;
+        if any_live(live, state.ports) {
+            run = one_more(state, run);
+        } else {
+            break;
+        }
     }
     run
 }

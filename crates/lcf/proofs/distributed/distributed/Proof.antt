@@ -1,9 +1,10 @@
 use borrow.Author.Needs.{needs}
 use Rattle.laws.proofs.Loops.{loop}
-use mathlib.Core.Path.{_≡_}
+use mathlib.Core.Path.{_≡_, sym, _∙_}
 use Prim.Native.Nat.{_≤_, _-_}
 use Rattle.laws.proofs.Loops.{done}
 use Rattle.lcf.specs.Distributed.{rounds, distributed}
+use Rattle.lcf.proofs.Rounds.{at-rest}
 use Rattle.lcf.proofs.distributed.distributed.Statement.{statement}
 use Rattle.lcf.proofs.distributed.distributed.Tie as tie
 
@@ -17,5 +18,9 @@ pub distributed-spec : {M : Type 1} → statement M
 unfolding distributed
 distributed-spec =
     tie.close
-    (tie.spec Inv-loop μ-loop (λ c κs. search loop) (λ c. search loop) (λ c κs. search loop) (λ c. search loop) (λ c. search loop) (λ c. search loop)
-    (λ c. rw (← c .before .before .favoured .ensures) (done _ _ _ _ (c .before .loop .inv .1) (search needs) (search needs))))
+    (tie.spec Inv-loop μ-loop (λ c κs. search loop) (λ c. search loop) (λ c κs. search loop)
+    (λ c κs. (search loop, search loop, sym (c .before .any-live .ensures) ∙ c .if1 .taken)) (λ c. search loop) (λ c. search loop) (λ c. search loop)
+    (λ c. rw (← c .before .before .favoured .ensures) (done _ _ _ _ (c .before .loop .inv .1) (search needs) (search needs)))
+    (λ c.
+    let turn = c .before .before .before .before .before in
+    rw (← turn .before .favoured .ensures) (at-rest _ _ _ _ (turn .loop .inv .1) (search needs) (sym (c .before .any-live .ensures) ∙ c .if1 .left))))

@@ -5,8 +5,4 @@ use Rattle.lcf.proofs.distributed.one_more.Tie as tie
 
 pub one-more-spec : {M : Type 1} → statement M
 unfolding oneMore
-one-more-spec =
-    tie.close
-    (tie.spec (λ c κs. search needs) (λ c κs. search needs) (λ c. search needs)
-    (λ c. (rw (← c .before .before .before .any-live .ensures, c .before .before .if1 .taken, ← c .before .round .ensures), search needs))
-    (λ c. (rw (← c .before .any-live .ensures, c .if1 .left), search needs)))
+one-more-spec = tie.close (tie.spec (λ c κs. search needs) (λ c. search needs) (λ c. (rw (c .before .before .pre .2, ← c .before .round .ensures), search needs)))
