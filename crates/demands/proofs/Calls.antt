@@ -14,7 +14,7 @@ use Rattle.ports.specs.declared.state.State.{State}
 use Rattle.ports.specs.declared.answer.Stepped.{Stepped}
 use Rattle.lcf.specs.Advance.{advance}
 use Rattle.lcf.specs.Slot.{matched, ended, slotOnTables}
-use Rattle.lcf.specs.declared.work.Run.{Run}
+use Rattle.choices.specs.declared.work.Run.{Run}
 use Rattle.demands.specs.Call.{Call, called, number, sets}
 use Rattle.demands.specs.Refusal.{InOrder}
 

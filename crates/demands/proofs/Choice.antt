@@ -8,7 +8,7 @@ use native.Mathlib.Omega.{arith}
 use lib.Dec.{ltb}
 use borrow.Author.Tests.{ltb-true, ltb-false}
 use Rattle.laws.proofs.Steps.{upto, kept}
-use Rattle.lcf.specs.Choice.{place, better, choice}
+use Rattle.choices.specs.Choice.{place, better, choice}
 use Rattle.demands.specs.Choice.{Chosen}
 use Rattle.demands.proofs.Keeps.{first-place}
 

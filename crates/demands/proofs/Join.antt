@@ -13,8 +13,8 @@ use borrow.Author.Tests.{eqb-true, eqb-false, eq-eqb, ne-eqb, not-true}
 use Rattle.laws.specs.Sets.{has, asks, with, without}
 use Rattle.laws.proofs.Tests.{both, either}
 use Rattle.laws.proofs.Members.{has-none, has-with, has-without, set-row, row-emptied}
-use Rattle.lcf.specs.Join.{join}
-use Rattle.lcf.specs.declared.work.Work.{Work}
+use Rattle.choices.specs.Join.{join}
+use Rattle.choices.specs.declared.work.Work.{Work}
 
 module _ (s : Work) (w c : ℕ) where
   row-joined : (i : ℕ) → getD (join s w c .live) i 0 ≡ without (getD (set (s .live) w 0) i 0) c

@@ -15,15 +15,16 @@ use Rattle.laws.proofs.Members.{gathered-has}
 use Rattle.ports.specs.declared.state.State.{State}
 use Rattle.ports.specs.declared.state.Mode.{Mode}
 use Rattle.ports.specs.declared.state.Mode.the-variants.{Central, Distributed, Diagonal}
-use Rattle.lcf.specs.Choice.{place}
-use Rattle.lcf.specs.Join.{join, joinLive}
-use Rattle.lcf.specs.Planned.{planner, give, planned}
-use Rattle.lcf.specs.Central.{winner, serve, central}
-use Rattle.lcf.specs.Diagonal.{diagonal, diagonalFirst}
-use Rattle.lcf.specs.Distributed.{grants, offers, accepted, answer, round, anyLive, oneMore, rounds, distributed}
-use Rattle.lcf.specs.Slot.{serveMode}
-use Rattle.lcf.specs.declared.work.Work.{Work}
-use Rattle.lcf.specs.declared.work.Run.{Run}
+use Rattle.choices.specs.Choice.{place}
+use Rattle.choices.specs.Join.{join, joinLive}
+use Rattle.planned.specs.Planned.{planner, give, planned}
+use Rattle.central.specs.Central.{winner, serve, central}
+use Rattle.central.specs.Diagonal.{diagonal}
+use Rattle.distributed.specs.Distributed.{grants, offers, accepted, answer, round, oneMore, rounds, distributed}
+use Rattle.choices.specs.Live.{anyLive}
+use Rattle.lcf.specs.Slot.{diagonalFirst, serveMode}
+use Rattle.choices.specs.declared.work.Work.{Work}
+use Rattle.choices.specs.declared.work.Run.{Run}
 use Rattle.demands.specs.History.{Below}
 use Rattle.demands.proofs.Join.{Left, left-live}
 

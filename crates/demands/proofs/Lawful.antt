@@ -8,10 +8,10 @@ use lib.ListN.{length}
 use Rattle.laws.specs.Sets.{asks}
 use Rattle.ports.specs.declared.state.State.{State}
 use Rattle.ports.specs.declared.state.Mode.{Mode}
-use Rattle.lcf.specs.Join.{join}
-use Rattle.lcf.specs.Planned.{start}
+use Rattle.choices.specs.Join.{join}
+use Rattle.planned.specs.Planned.{start}
 use Rattle.lcf.specs.Slot.{matched}
-use Rattle.lcf.specs.declared.work.Work.{Work}
+use Rattle.choices.specs.declared.work.Work.{Work}
 use Rattle.demands.specs.Origin.{Given, Live, Alone}
 use Rattle.demands.proofs.Choice.{chosen-once}
 use Rattle.demands.proofs.Join.{live-left, held-cases, held-still}

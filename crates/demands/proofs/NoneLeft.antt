@@ -13,10 +13,10 @@ use Rattle.ports.specs.Tables.{within}
 use Rattle.ports.specs.declared.state.State.{State}
 use Rattle.ports.specs.declared.state.Mode.{Mode}
 use Rattle.ports.specs.declared.state.Mode.the-variants.{Distributed}
-use Rattle.lcf.specs.Join.{join}
-use Rattle.lcf.specs.Planned.{planner, start}
+use Rattle.choices.specs.Join.{join}
+use Rattle.planned.specs.Planned.{planner, start}
 use Rattle.lcf.specs.Slot.{matched}
-use Rattle.lcf.specs.declared.work.Work.{Work}
+use Rattle.choices.specs.declared.work.Work.{Work}
 use Rattle.demands.specs.Call as tables
 use Rattle.demands.specs.SlotCall.{SlotCall, number, sets, onTables}
 use Rattle.demands.specs.Block.{Asks}

@@ -20,10 +20,11 @@ use Rattle.laws.proofs.Tallies.{tally-most, tally-none, tally-fewer}
 use Rattle.laws.proofs.Words.{first-digit}
 use Rattle.ports.specs.Tables.{within}
 use Rattle.ports.specs.declared.state.State.{State}
-use Rattle.lcf.specs.Join.{join}
-use Rattle.lcf.specs.Planned.{start}
-use Rattle.lcf.specs.Distributed.{askers, grants, offers, accepted, answer, round, anyLive}
-use Rattle.lcf.specs.declared.work.Work.{Work}
+use Rattle.choices.specs.Join.{join}
+use Rattle.planned.specs.Planned.{start}
+use Rattle.distributed.specs.Distributed.{askers, grants, offers, accepted, answer, round}
+use Rattle.choices.specs.Live.{anyLive}
+use Rattle.choices.specs.declared.work.Work.{Work}
 use Rattle.demands.specs.Rounds.{SomeLive, afterRounds, RoundsRun}
 use Rattle.demands.specs.Progress.{Within, Joins, Falls, RoundsJoin}
 use Rattle.demands.specs.Choice.{targetStart, FewestRequests, FewestAskers}

@@ -14,11 +14,12 @@ use Rattle.ports.specs.declared.state.State.{State}
 use Rattle.ports.specs.declared.state.Mode.{Mode}
 use Rattle.ports.specs.declared.state.Mode.the-variants.{Central, Distributed, Diagonal}
 use Rattle.ports.specs.declared.answer.Stepped.{Stepped}
-use Rattle.lcf.specs.Distributed.{anyLive, round, oneMore, distributed}
-use Rattle.lcf.specs.Planned.{start}
+use Rattle.choices.specs.Live.{anyLive}
+use Rattle.distributed.specs.Distributed.{round, oneMore, distributed}
+use Rattle.planned.specs.Planned.{start}
 use Rattle.lcf.specs.Slot.{serveMode, matched}
-use Rattle.lcf.specs.declared.work.Work.{Work}
-use Rattle.lcf.specs.declared.work.Run.{Run}
+use Rattle.choices.specs.declared.work.Work.{Work}
+use Rattle.choices.specs.declared.work.Run.{Run}
 use Rattle.demands.specs.Call as tables
 use Rattle.demands.specs.SlotCall.{SlotCall, called, number, onTables}
 use Rattle.demands.specs.Rounds.{SomeLive, afterRounds, RoundsRun, begun, RoundsOf, HasRounds}

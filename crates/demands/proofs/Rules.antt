@@ -11,10 +11,10 @@ use Rattle.laws.specs.Sets.{has, asks, column, sizes}
 use Rattle.laws.proofs.Members.{has-gathered}
 use Rattle.laws.proofs.Rows.{row-tabled}
 use Rattle.ports.specs.declared.state.State.{State}
-use Rattle.lcf.specs.Choice.{turned}
-use Rattle.lcf.specs.Planned.{planner}
-use Rattle.lcf.specs.Central.{fewest, winner}
-use Rattle.lcf.specs.Distributed.{askers, grants, offers, accepted}
+use Rattle.choices.specs.Choice.{turned, fewest}
+use Rattle.planned.specs.Planned.{planner}
+use Rattle.central.specs.Central.{winner}
+use Rattle.distributed.specs.Distributed.{askers, grants, offers, accepted}
 use Rattle.demands.specs.Choice.{targetStart, initiatorStart, FirstClaimant, FewestRequests, granted, FewestAskers}
 use Rattle.demands.proofs.Choice.{choice-chosen, chosen-same}
 

@@ -10,9 +10,9 @@ use Rattle.laws.specs.Sets.{asks}
 use Rattle.laws.proofs.Members.{asks-row}
 use Rattle.ports.specs.declared.state.State.{State}
 use Rattle.ports.specs.declared.state.Mode.{Mode}
-use Rattle.lcf.specs.Planned.{start}
+use Rattle.planned.specs.Planned.{start}
 use Rattle.lcf.specs.Slot.{matched}
-use Rattle.lcf.specs.declared.work.Work.{Work}
+use Rattle.choices.specs.declared.work.Work.{Work}
 use Rattle.demands.specs.Origin.{Live, Alone}
 use Rattle.demands.specs.Call.{Call, next, sets, served}
 use Rattle.demands.specs.History.{Below, howMany, InServed, quota, ByValue, Moves, First, Fair}

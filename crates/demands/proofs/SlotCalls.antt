@@ -20,7 +20,7 @@ use Rattle.ports.specs.declared.state.Mode.the-variants.{Central, Distributed, 
 use Rattle.ports.specs.declared.answer.Stepped.{Stepped}
 use Rattle.hearing.specs.Heard.{counted}
 use Rattle.lcf.specs.Slot.{matched, ended, slotOnTables}
-use Rattle.lcf.specs.declared.work.Run.{Run}
+use Rattle.choices.specs.declared.work.Run.{Run}
 use Rattle.shelf.specs.Hosts.{hostsOf}
 use Rattle.shelf.specs.Step.{refusal, slotOnHosts, stepped}
 use Rattle.demands.specs.Call as tables

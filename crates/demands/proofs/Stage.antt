@@ -13,9 +13,9 @@ use Rattle.laws.proofs.Members.{has-below, below-has, asks-row, asks-empty, tab
 use Rattle.laws.proofs.Rows.{row-tabled}
 use Rattle.ports.specs.Tables.{within}
 use Rattle.ports.specs.declared.state.State.{State}
-use Rattle.lcf.specs.Join.{join}
-use Rattle.lcf.specs.Planned.{planner, planned, start}
-use Rattle.lcf.specs.declared.work.Work.{Work}
+use Rattle.choices.specs.Join.{join}
+use Rattle.planned.specs.Planned.{planner, planned, start}
+use Rattle.choices.specs.declared.work.Work.{Work}
 use Rattle.demands.specs.Origin.{Given, Live}
 use Rattle.demands.proofs.Choice.{chosen-once, chosen-same}
 use Rattle.demands.proofs.Rules.{planner-chosen}

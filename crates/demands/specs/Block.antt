@@ -11,7 +11,7 @@ use Rattle.frames.specs.Config.{readConfig}
 use Rattle.frames.specs.Part.{frameLen}
 use Rattle.frames.specs.declared.config.Config.{Config}
 use Rattle.ports.specs.declared.state.State.{State}
-use Rattle.lcf.specs.Choice.{place}
+use Rattle.choices.specs.Choice.{place}
 use Rattle.demands.specs.Choice.{targetStart}
 
 -- the bytes of the frame of host h

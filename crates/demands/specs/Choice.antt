@@ -8,8 +8,8 @@ use lib.Dec.{eqb}
 use lib.ListN.{getD}
 use Rattle.laws.specs.Sets.{asks, column}
 use Rattle.ports.specs.declared.state.State.{State}
-use Rattle.lcf.specs.Choice.{place, turned}
-use Rattle.lcf.specs.Distributed.{grants}
+use Rattle.choices.specs.Choice.{place, turned}
+use Rattle.distributed.specs.Distributed.{grants}
 
 -- of those below n that ask, c has the lowest number; among equals, it is the first in the rotation from a
 pub record Chosen (asking : ℕ → Bool) (number : ℕ → ℕ) (n a c : ℕ) : Type 0 where

@@ -7,7 +7,7 @@ use Prim.Native.Nat.{ℕ, suc, _≤_, _<_}
 use lib.ListN.{length}
 use Rattle.laws.specs.Sets.{asks}
 use Rattle.ports.specs.declared.state.State.{State}
-use Rattle.lcf.specs.declared.work.Work.{Work}
+use Rattle.choices.specs.declared.work.Work.{Work}
 use Rattle.demands.specs.Rounds.{afterRounds}
 
 -- there is a row for each of n ports, and what is live is of the ports

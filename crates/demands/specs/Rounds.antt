@@ -9,10 +9,10 @@ use Rattle.laws.specs.Sets.{asks}
 use Rattle.ports.specs.declared.state.State.{State}
 use Rattle.ports.specs.declared.state.Mode.{Mode}
 use Rattle.ports.specs.declared.state.Mode.the-variants.{Central, Distributed, Diagonal}
-use Rattle.lcf.specs.Join.{joinLive}
-use Rattle.lcf.specs.Distributed.{round}
-use Rattle.lcf.specs.Planned.{start}
-use Rattle.lcf.specs.declared.work.Work.{Work}
+use Rattle.choices.specs.Join.{joinLive}
+use Rattle.distributed.specs.Distributed.{round}
+use Rattle.planned.specs.Planned.{start}
+use Rattle.choices.specs.declared.work.Work.{Work}
 use Rattle.demands.specs.SlotCall.{SlotCall, sets, onTables}
 
 -- a request of one of n initiators is live

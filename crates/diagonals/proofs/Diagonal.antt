@@ -14,12 +14,12 @@ use Rattle.laws.proofs.Steps.{kept}
 use Rattle.laws.proofs.Members.{asks-row}
 use Rattle.ports.specs.declared.state.State.{State}
 use Rattle.ports.specs.declared.state.Mode.the-variants.{Diagonal}
-use Rattle.lcf.specs.Choice.{place}
-use Rattle.lcf.specs.Join.{join, joinLive}
-use Rattle.lcf.specs.Diagonal.{diagonal, diagonalFirst}
-use Rattle.lcf.specs.Planned.{start}
-use Rattle.lcf.specs.Slot.{serveMode, matched}
-use Rattle.lcf.specs.declared.work.Work.{Work}
+use Rattle.choices.specs.Choice.{place}
+use Rattle.choices.specs.Join.{join, joinLive}
+use Rattle.central.specs.Diagonal.{diagonal}
+use Rattle.planned.specs.Planned.{start}
+use Rattle.lcf.specs.Slot.{diagonalFirst, serveMode, matched}
+use Rattle.choices.specs.declared.work.Work.{Work}
 use Rattle.demands.specs.History.{Below}
 use Rattle.demands.specs.Share.{Waits}
 use Rattle.demands.proofs.Join.{held-still, held-now, held-length, left-live}

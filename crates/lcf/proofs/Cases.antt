@@ -12,14 +12,13 @@ use Rattle.ports.specs.declared.state.State.{State}
 use Rattle.ports.specs.declared.state.Mode.{Mode}
 use Rattle.ports.specs.declared.state.Mode.the-variants.{Central, Distributed, Diagonal}
 use Rattle.hearing.specs.Heard.{present, counted}
-use Rattle.lcf.specs.Choice.{choice}
-use Rattle.lcf.specs.Join.{join, joinLive}
-use Rattle.lcf.specs.Planned.{planner, give, planned, start}
-use Rattle.lcf.specs.Central.{fewest, winner, serve}
-use Rattle.lcf.specs.Diagonal.{diagonalFirst}
-use Rattle.lcf.specs.Distributed.{askers, grants, offers, accepted, answer, round, oneMore, distributed}
+use Rattle.choices.specs.Choice.{choice, fewest}
+use Rattle.choices.specs.Join.{join, joinLive}
+use Rattle.planned.specs.Planned.{planner, give, planned, start}
+use Rattle.central.specs.Central.{winner, serve}
+use Rattle.lcf.specs.Slot.{diagonalFirst, serveMode, matched, ended, slotOnTables}
+use Rattle.distributed.specs.Distributed.{askers, grants, offers, accepted, answer, round, oneMore, distributed}
 use Rattle.lcf.specs.Advance.{advance}
-use Rattle.lcf.specs.Slot.{serveMode, matched, ended, slotOnTables}
 
 -- a table of which the first four rows are given
 whole : List ℕ → List ℕ

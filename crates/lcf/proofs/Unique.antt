@@ -2,16 +2,11 @@
 use mathlib.Core.Path.{_≡_}
 use Rattle.laws.proofs.Unique.{the-result}
 use Rattle.ports.specs.declared.answer.Stepped.{Stepped}
-use Rattle.lcf.specs.declared.work.Work.{Work}
 use Rattle.lcf.proofs.slot.slot_on_tables.Reads as slot-on-tables
-use Rattle.lcf.proofs.slot.start_due.Reads as start-due
 use Rattle.lcf.proofs.slot.finish_due.Reads as finish-due
 
 pub slot-on-tables-once : (κs a : _) (r s : Stepped) (x y : _) → slot-on-tables.Learnt κs a r x → slot-on-tables.Learnt κs a s y → r ≡ s
 slot-on-tables-once κs a r s x y p q = the-result p q
-
-pub start-due-once : (κs a : _) (r s : Work) (x y : _) → start-due.Learnt κs a r x → start-due.Learnt κs a s y → r ≡ s
-start-due-once κs a r s x y p q = the-result p q
 
 pub finish-due-once : (κs a : _) (r s : Stepped) (x y : _) → finish-due.Learnt κs a r x → finish-due.Learnt κs a s y → r ≡ s
 finish-due-once κs a r s x y p q = the-result p q

@@ -1,10 +1,2 @@
-pub mod Choice
-pub mod Scan
-pub mod Join
-pub mod Planned
-pub mod Central
-pub mod Diagonal
-pub mod Distributed
-pub mod Offers
 pub mod Advance
 pub mod Slot

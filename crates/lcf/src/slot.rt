@@ -1,11 +1,10 @@
 // One slot on tables: rules 3 to 7.
-use crate::central::central;
-use crate::choice::wrapped;
-use crate::diagonal::opened;
-use crate::distributed::distributed;
-use crate::planned::planned;
-use crate::work::Run;
-use crate::work::Work;
+use central::serve_targets;
+use central::take_diagonal;
+use choices::Run;
+use choices::Work;
+use distributed::serve_rounds;
+use planned::start;
 use ports::Answer;
 use ports::Initiator;
 use ports::Mode;
@@ -15,15 +14,23 @@ use ports::Table;
 use ports::Target;
 use ports::declined;
 use ports::due_number;
-use ports::within;
 ghost use mathlib.Core.Path.{_≡_};
 ghost use mathlib.Core.Bool.{false};
+ghost use Prim.Native.Nat.{_+_, _%_, _<_};
 ghost use Rattle.frames.specs.Part.{mostPorts};
 ghost use Rattle.ports.specs.Ready.{Ready};
 ghost use Rattle.ports.specs.Due.{wrongLimit};
 ghost use Rattle.lcf.specs.Advance.{advance};
-ghost use Rattle.lcf.specs.Planned.{start};
-ghost use Rattle.lcf.specs.Slot.{serveMode, ended, slotOnTables, orderly, startDue, finishDue};
+ghost use Rattle.lcf.specs.Slot.{opened, serveMode, ended, slotOnTables, finishDue};
+
+// The port after x, and 0 after the last.
+fn following(x: usize, n: usize) -> usize
+    requires { ⌜ x < n ⌝ }
+    ensures { λ r. ⌜ r ≡ (x + 1) % n ⌝ }
+{
+    let next = x + 1;
+    if next < n { next } else { 0 }
+}
 
 // Rule 7.
 fn advance(state: State) -> State
@@ -31,13 +38,13 @@ fn advance(state: State) -> State
     ensures { λ r. ⌜ r ≡ advance state ⌝ }
 {
     let n = state.ports;
-    let i = wrapped(state.initiator.0 + 1, n);
+    let i = following(state.initiator.0, n);
     let due = std::num::wrapping_add_u32(state.due, 1);
     if i == 0 {
         State {
             ports: n,
             initiator: Initiator(i),
-            target: Target(wrapped(state.target.0 + 1, n)),
+            target: Target(following(state.target.0, n)),
             due,
         }
     } else {
@@ -50,16 +57,16 @@ fn advance(state: State) -> State
     }
 }
 
-// Rules 3 and 4.
-fn start(state: State, req: Table, pre: Table) -> Work
+// What the mode joins before the central form serves the rest.
+fn opened(state: State, mode: Mode, work: Work) -> Work
     requires { ⌜ Ready mostPorts state ⌝ }
-    ensures { λ r. ⌜ r ≡ start state req pre ⌝ }
+    ensures { λ r. ⌜ r ≡ opened state mode work ⌝ }
 {
-    let work = Work {
-        live: within(state.ports, req),
-        held: State::empty_table(),
-    };
-    planned(state, within(state.ports, pre), work)
+    match mode {
+        Mode::Central => work,
+        Mode::Distributed(limit) => work,
+        Mode::Diagonal => take_diagonal(state, work),
+    }
 }
 
 // Rules 5 and 6, and diagonal-first. One call serves by the central form, so that it needs no frame of its own.
@@ -69,11 +76,11 @@ fn serve_mode(state: State, mode: Mode, work: Work) -> Run
 {
     let Mode::Distributed(limit) = mode else {
         return Run {
-            work: central(state, opened(state, mode, work)),
+            work: serve_targets(state, opened(state, mode, work)),
             rounds: 0,
         };
     };
-    distributed(state, limit, work)
+    serve_rounds(state, limit, work)
 }
 
 fn ended(state: State, run: Run) -> Stepped
@@ -100,28 +107,7 @@ fn finish(state: State, mode: Mode, work: Work) -> Stepped
     ended(state, serve_mode(state, mode, work))
 }
 
-fn orderly(state: State) -> State
-    ensures { λ r. ⌜ (r ≡ orderly mostPorts state) × (Ready mostPorts r) ⌝ }
-{
-    if due_number(state, state.due, Mode::Central) == 0 {
-        state
-    } else {
-        State {
-            ports: 1,
-            initiator: Initiator(0),
-            target: Target(0),
-            due: state.due,
-        }
-    }
-}
-
-// The slot that is due up to its live requests, and from there on.
-pub fn start_due(state: State, req: Table, pre: Table) -> Work
-    ensures { λ r. ⌜ r ≡ startDue mostPorts state req pre ⌝ }
-{
-    start(orderly(state), req, pre)
-}
-
+// The slot that is due, from its live requests on.
 pub fn finish_due(state: State, mode: Mode, work: Work) -> Stepped
     ensures { λ r. ⌜ r ≡ finishDue mostPorts state mode work ⌝ }
 {

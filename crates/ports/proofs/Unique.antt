@@ -5,12 +5,14 @@ use Prim.Native.Nat.{ℕ}
 use Rattle.laws.proofs.Unique.{the-result}
 use Rattle.ports.specs.declared.state.Fresh.{Fresh}
 use Rattle.ports.specs.declared.state.Mode.{Mode}
+use Rattle.ports.specs.declared.state.State.{State}
 use Rattle.ports.specs.declared.answer.Stepped.{Stepped}
 use Rattle.ports.proofs.state.State.fresh.Reads as fresh
 use Rattle.ports.proofs.state.State.empty_table.Reads as empty-table
 use Rattle.ports.proofs.state.mode_of.Reads as mode-of
 use Rattle.ports.proofs.tables.within.Reads as within
 use Rattle.ports.proofs.due.due_number.Reads as due-number
+use Rattle.ports.proofs.due.orderly.Reads as orderly
 use Rattle.ports.proofs.answer.declined.Reads as declined
 use Rattle.ports.proofs.tables.at_most.Reads as at-most
 
@@ -31,6 +33,9 @@ within-once κs a r s x y p q = the-result p q
 
 pub due-number-once : (κs a : _) (r s : ℕ) (x y : _) → due-number.Learnt κs a r x → due-number.Learnt κs a s y → r ≡ s
 due-number-once κs a r s x y p q = the-result p q
+
+pub orderly-once : (κs a : _) (r s : State) (x y : _) → orderly.Learnt κs a r x → orderly.Learnt κs a s y → r ≡ s
+orderly-once κs a r s x y p q = the-result p q
 
 pub declined-once : (κs a : _) (r s : Stepped) (x y : _) → declined.Learnt κs a r x → declined.Learnt κs a s y → r ≡ s
 declined-once κs a r s x y p q = the-result p q

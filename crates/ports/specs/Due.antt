@@ -1,7 +1,7 @@
 -- Whether a slot is due: the numbers 1 to 5, and what a slot that is not served answers.
 use Prim.Native.Nat.{ℕ, _+_, _-_, _%_, _^_}
 use mathlib.Core.Bool.{Bool, false, _&&_, _||_, cond}
-use lib.Dec.{ltb, leb}
+use lib.Dec.{eqb, ltb, leb}
 use lib.ListN.{replicate}
 use Rattle.ports.specs.declared.state.State.{State}
 use Rattle.ports.specs.declared.state.Mode.{Mode}
@@ -30,3 +30,8 @@ dueNumber m st slot mode =
 -- a declined slot: the state as it was, sixteen empty sets and 0 rounds
 unfoldable pub declined : ℕ → State → ℕ → Stepped
 declined m st number = record { state = st; answer = record { number = number; rounds = 0; sets = replicate m 0 } }
+
+-- the state, and one of a single port where 1 or 2 declines it
+unfoldable pub orderly : ℕ → State → State
+orderly m st =
+    cond (eqb (dueNumber m st (st .due) Central) 0) st (record { ports = 1; initiator = record { 0 = 0 }; target = record { 0 = 0 }; due = st .due })

@@ -1,9 +1,11 @@
 // Whether a slot is due: the numbers 1 to 5.
+use crate::state::Initiator;
 use crate::state::Mode;
 use crate::state::State;
+use crate::state::Target;
 ghost use mathlib.Core.Path.{_≡_};
 ghost use Rattle.frames.specs.Part.{mostPorts};
-ghost use Rattle.ports.specs.Due.{behind, wrongLimit, dueNumber};
+ghost use Rattle.ports.specs.Due.{behind, wrongLimit, dueNumber, orderly};
 
 fn behind(state: State, slot: u32) -> u32
     ensures { λ r. ⌜ r ≡ behind state slot ⌝ }
@@ -42,4 +44,20 @@ pub fn due_number(state: State, slot: u32, mode: Mode) -> u8
         return 5;
     }
     0
+}
+
+// The state, or one of a single port: what is total on states can be served.
+pub fn orderly(state: State) -> State
+    ensures { λ r. ⌜ r ≡ orderly mostPorts state ⌝ }
+{
+    if due_number(state, state.due, Mode::Central) == 0 {
+        state
+    } else {
+        State {
+            ports: 1,
+            initiator: Initiator(0),
+            target: Target(0),
+            due: state.due,
+        }
+    }
 }

@@ -8,6 +8,7 @@ pub use answer::Answer;
 pub use answer::Stepped;
 pub use answer::declined;
 pub use due::due_number;
+pub use due::orderly;
 pub use state::Fresh;
 pub use state::Initiator;
 pub use state::Mode;

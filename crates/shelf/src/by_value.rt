@@ -8,9 +8,9 @@ ghost use Rattle.shelf.specs.Step.{refusal, stepped, output};
 ghost use Rattle.shelf.specs.Unanswered.{blockRefusal, unanswered};
 use crate::grants::write_grants;
 use crate::hosts::listen;
+use choices::Work;
 use frames::Config;
 use frames::Held;
-use lcf::Work;
 use ports::Mode;
 use ports::Set;
 use ports::State;
@@ -59,7 +59,7 @@ fn begin(state: State, block: &[u8]) -> Begun
     let claimed = tables.pre;
     Begun {
         heard: told.heard,
-        work: lcf::start_due(state, asked, claimed),
+        work: planned::start(state, asked, claimed),
     }
 }
 

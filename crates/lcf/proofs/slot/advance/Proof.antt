@@ -8,6 +8,6 @@ pub advance-spec : {M : Type 1} → statement M
 unfolding advance
 advance-spec =
     tie.close
-    (tie.spec (λ c. search needs) (λ c κs. search needs) (λ c κs. search needs) (λ c. search needs) (λ c κs. search needs)
-    (λ c. rw (← c .before .before .before .before .wrapped .ensures .0, ← c .wrapped2 .ensures .0, ← c .before .before .before .wrapping-add-u32 .ensures, eq-eqb _ _ (c .before .before .if1 .taken)))
-    (λ c. rw (← c .before .before .wrapped .ensures .0, ← c .before .wrapping-add-u32 .ensures, ne-eqb _ _ (c .if1 .left))))
+    (tie.spec (λ c κs. search needs) (λ c κs. search needs) (λ c κs. search needs)
+    (λ c. rw (← c .before .before .before .following .ensures, ← c .following2 .ensures, ← c .before .before .wrapping-add-u32 .ensures, eq-eqb _ _ (c .before .if1 .taken)))
+    (λ c. rw (← c .before .before .following .ensures, ← c .before .wrapping-add-u32 .ensures, ne-eqb _ _ (c .if1 .left))))

@@ -10,4 +10,4 @@ unfolding begunOf toldOf tables
 begin-spec =
     tie.close
     (tie.spec (λ c κs. search needs) (λ c κs. search needs)
-    (λ c. rw (c .start-due .ensures, c .before .before .before .before .listen .ensures)))
+    (λ c. rw (c .start .ensures, c .before .before .before .before .listen .ensures)))

@@ -1,0 +1,3 @@
+pub mod Choices
+pub mod Ports
+pub mod Unique
