@@ -20,6 +20,7 @@ WARNINGS = -Wall -Wextra -Wpedantic -Werror
 PROVED = build/libbellacush.a
 LIBRARY ?= $(PROVED)
 FIRMWARE = target/staticlib/libbellacush.a
+FRAMES = target/staticlib/libframe_calls.a
 COLLECTORS = target/staticlib/libcollector_calls.a
 MEASURED = target/staticlib/libmeasured.a
 HEADER = include/bellacush.h
@@ -30,15 +31,15 @@ CARGO = BELLACUSH_ARCHIVE='$(abspath $(LIBRARY))' cargo
 
 all: $(LIBRARY) build/shelf build/replay
 
-# The slot and frame calls, the collectors' calls, and the checks alone, which the tests and the benchmark link.
-$(FIRMWARE) $(COLLECTORS) $(MEASURED): target/staticlib/lib%.a: $(SOURCES)
+# The slot call, the frame calls, the collectors' calls, and what the tests and the benchmark link besides.
+$(FIRMWARE) $(FRAMES) $(COLLECTORS) $(MEASURED): target/staticlib/lib%.a: $(SOURCES)
 	rt staticlib $*
 	@touch $@
 
-# An object of its own keeps the slot call's stack low: nothing else in it calls what the slot is made of.
-$(PROVED): $(FIRMWARE) $(COLLECTORS)
+# An object of its own keeps the slot call fast and its stack low: nothing else in it calls what the slot is made of.
+$(PROVED): $(FIRMWARE) $(FRAMES) $(COLLECTORS)
 	@mkdir -p build
-	printf 'create %s\naddlib %s\naddlib %s\nsave\nend\n' $@ $^ | ar -M
+	printf 'create %s\naddlib %s\naddlib %s\naddlib %s\nsave\nend\n' $@ $^ | ar -M
 
 build/shelf: firmware/shelf.c $(HEADER) $(LIBRARY)
 	@mkdir -p build
@@ -86,8 +87,24 @@ before:
 	@mkdir -p $(dir $(RENAMED))
 	objcopy --redefine-sym bellacush_slot=before_slot --keep-global-symbol=before_slot $(BEFORE) $(RENAMED)
 
-bench: $(LIBRARY) $(MEASURED) $(if $(BEFORE),before)
-	$(if $(BEFORE),BELLACUSH_BEFORE='$(abspath $(RENAMED))') $(CARGO) run --offline --quiet --release --package bellacush-bench
+# The same sources with the plain rule at every port count: what the columns are measured against.
+PLAIN_RULE = target/plain_rule/libplain_rule.a
+
+$(PLAIN_RULE): $(FIRMWARE) $(COLLECTORS)
+	rm -rf $(@D)
+	mkdir -p $(@D)/target
+	cp -r crates crates.txt $(@D)
+	cp -r $(filter-out target/plain_rule target/staticlib,$(wildcard target/*)) $(@D)/target
+	grep -q '^const COLUMNS_FROM: usize = [0-9]*;' $(@D)/crates/lcf/src/slot.rt
+	sed -i 's/^const COLUMNS_FROM: usize = .*/const COLUMNS_FROM: usize = State::MOST + 1;/' $(@D)/crates/lcf/src/slot.rt
+	cd $(@D) && rt staticlib bellacush && rt staticlib collector_calls
+	printf 'create %s\naddlib %s\naddlib %s\nsave\nend\n' $@ $(FIRMWARE:%=$(@D)/%) $(COLLECTORS:%=$(@D)/%) | ar -M
+	objcopy --redefine-sym bellacush_slot=plain_rule_slot --redefine-sym bellacush_replay=plain_rule_replay \
+	    --keep-global-symbol=plain_rule_slot --keep-global-symbol=plain_rule_replay $@
+
+bench: $(LIBRARY) $(MEASURED) $(PLAIN_RULE) $(if $(BEFORE),before)
+	$(if $(BEFORE),BELLACUSH_BEFORE='$(abspath $(RENAMED))') BELLACUSH_PLAIN_RULE='$(abspath $(PLAIN_RULE))' \
+	    $(CARGO) run --offline --quiet --release --package bellacush-bench
 
 install: $(LIBRARY)
 	install -d '$(DESTDIR)$(PREFIX)/include' '$(DESTDIR)$(PREFIX)/lib/pkgconfig'

@@ -2,11 +2,15 @@
 
 #[cfg(before)]
 mod before;
+mod by_columns;
+mod central;
 mod feeds;
 mod long_checks;
 mod plain;
 mod plain_check;
 mod plain_ledger;
+#[cfg(plain_rule)]
+mod plain_rule;
 mod replays;
 mod stack;
 mod timing;
@@ -48,6 +52,9 @@ fn main() {
     growth();
     feeds::section();
     replays::section();
+    central::section();
+    #[cfg(plain_rule)]
+    plain_rule::section();
     stacks();
     #[cfg(before)]
     before::compared();

@@ -6,17 +6,17 @@ const CONFIG_LEN: usize = 11;
 const GRANT_LEN: usize = 7;
 const DIAGONAL: u32 = 17;
 
-type Rows = [u16; MOST_PORTS];
+pub type Rows = [u16; MOST_PORTS];
 
 #[derive(Clone, Copy)]
-struct Place {
-    n: usize,
-    i: usize,
-    j: usize,
+pub struct Place {
+    pub n: usize,
+    pub i: usize,
+    pub j: usize,
 }
 
 impl Place {
-    fn next(self, k: usize) -> usize {
+    pub fn next(self, k: usize) -> usize {
         if k + 1 == self.n {
             0
         } else {
@@ -31,9 +31,9 @@ impl Place {
 }
 
 /// What remains to be decided, and what is.
-struct Work {
-    live: Rows,
-    held: Rows,
+pub struct Work {
+    pub live: Rows,
+    pub held: Rows,
 }
 
 impl Work {
@@ -83,6 +83,22 @@ pub fn slot(
     out: &mut [u8],
     table: &mut [u8],
 ) -> u32 {
+    slot_by(central, state, slot, mode, block, link, out, table)
+}
+
+/// The slot with one way or another to serve by the central rule.
+#[allow(clippy::too_many_arguments)]
+#[inline(always)]
+pub fn slot_by(
+    central: impl Fn(Place, &mut Work),
+    state: &mut [u8],
+    slot: u32,
+    mode: u32,
+    block: &[u8],
+    link: u16,
+    out: &mut [u8],
+    table: &mut [u8],
+) -> u32 {
     if state.len() != 7 || table.len() != 2 * MOST_PORTS {
         return 8;
     }
@@ -110,15 +126,19 @@ pub fn slot(
         limit => distributed(at, limit, &mut work),
     };
     write_grants(at.n, &work.held, link, quiet, out);
-    for (bytes, held) in table.chunks_exact_mut(2).zip(work.held) {
-        bytes.copy_from_slice(&held.to_be_bytes());
-    }
+    put_table(&work.held, table);
     state[1] = at.next(at.i) as u8;
     if state[1] == 0 {
         state[2] = at.next(at.j) as u8;
     }
     state[3..].copy_from_slice(&due.wrapping_add(1).to_be_bytes());
     rounds * 256
+}
+
+pub fn put_table(sets: &Rows, table: &mut [u8]) {
+    for (bytes, set) in table.chunks_exact_mut(2).zip(sets) {
+        bytes.copy_from_slice(&set.to_be_bytes());
+    }
 }
 
 fn refusal(at: Place, due: u32, slot: u32, mode: u32, block_len: usize, out_len: usize) -> u32 {
@@ -140,7 +160,7 @@ fn refusal(at: Place, due: u32, slot: u32, mode: u32, block_len: usize, out_len:
 }
 
 /// Reads the block and settles what is planned; also says which hosts are not heard.
-fn begin(at: Place, block: &[u8]) -> (Work, u16) {
+pub fn begin(at: Place, block: &[u8]) -> (Work, u16) {
     let below = u16::MAX >> (MOST_PORTS - at.n);
     let (mut req, mut pre) = ([0; MOST_PORTS], [0; MOST_PORTS]);
     let (mut uncleared, mut enabled, mut quiet) = (below, below, 0);
@@ -200,7 +220,7 @@ fn diagonal(at: Place, work: &mut Work) {
     }
 }
 
-fn central(at: Place, work: &mut Work) {
+pub fn central(at: Place, work: &mut Work) {
     let (mut first, mut target) = (at.i, at.j);
     for _ in 0..at.n {
         if work.live[first] >> target & 1 == 1 {

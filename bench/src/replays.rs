@@ -9,20 +9,23 @@ use std::hint::black_box;
 
 use crate::micro;
 use crate::timing::{compare, Times};
-use crate::traces::{Player, Trace, HALF};
+use crate::traces::{Load, Player, Trace, HALF};
 
 const PORTS: usize = 16;
 const MOST_REPLAY_RATIO: f64 = 1.5;
 
+/// How the tables of a body come about.
+pub type BodyFn = fn(u32, u32, u32, &[u8], &mut [u8]) -> u32;
+
 /// How a program begins with a file: what it checks before it goes from body to body.
 type Begin = fn(&[u8], &mut [u32]) -> u32;
 
-fn contents_alone(file: &[u8], shown: &mut [u32]) -> u32 {
+pub fn contents_alone(file: &[u8], shown: &mut [u32]) -> u32 {
     calls::contents(file, file.len(), shown)
 }
 
 /// The file of a run that starts at slot 0 with both offsets 0.
-fn recorded(run: &Trace) -> Vec<u8> {
+pub fn recorded(run: &Trace) -> Vec<u8> {
     let bodies = run.blocks.chunks(MOST_BODY_SLOTS).enumerate();
     let body = |(k, blocks): (usize, &[Vec<u8>])| {
         let before = k * MOST_BODY_SLOTS;
@@ -41,7 +44,7 @@ fn recorded(run: &Trace) -> Vec<u8> {
     trace.file()
 }
 
-fn replay(begin: Begin, file: &[u8], tables: &mut [u8]) {
+pub fn replay(begin: Begin, of_body: BodyFn, file: &[u8], tables: &mut [u8]) {
     let (mut shown, mut place) = ([0; HEAD_WORDS], [0; BODY_WORDS]);
     assert_eq!(begin(file, &mut shown), 0, "the file was refused");
     let [ports, count] = shown;
@@ -50,8 +53,8 @@ fn replay(begin: Begin, file: &[u8], tables: &mut [u8]) {
         assert_eq!(calls::entry(file, k, &mut place), 0);
         let [first, slots, offset, len] = place;
         let body = &file[offset as usize..][..len as usize];
-        let (of_body, behind) = rest.split_at_mut(TABLE_LEN * slots as usize);
-        assert_eq!(calls::replay(ports, first, slots, body, of_body), 0);
+        let (told, behind) = rest.split_at_mut(TABLE_LEN * slots as usize);
+        assert_eq!(of_body(ports, first, slots, body, told), 0);
         rest = behind;
     }
 }
@@ -60,13 +63,13 @@ fn measure(begin: Begin, run: &Trace) -> Times {
     let file = recorded(run);
     let mut tables = vec![0; TABLE_LEN * run.blocks.len()];
     let mut live = Player::new(calls::slot, run);
-    replay(begin, &file, &mut tables);
+    replay(begin, calls::replay, &file, &mut tables);
     for (block, table) in run.blocks.iter().zip(tables.chunks(TABLE_LEN)) {
         assert_eq!(live.connected(run, block), table);
     }
     compare(
         run.blocks.len(),
-        || replay(begin, black_box(&file), &mut tables),
+        || replay(begin, calls::replay, black_box(&file), &mut tables),
         || live.pass(run),
     )
 }
@@ -81,10 +84,15 @@ fn row(work: &str, times: Times) {
     println!("| {work} | {ours:.3} | {slot:.3} | {ratio:.2} | {limit} |");
 }
 
-pub fn section() {
-    // several bodies, the last one shorter
-    let mut run = Trace::new(PORTS, HALF, CENTRAL);
+/// Several bodies, the last one shorter.
+pub fn long_run(load: Load) -> Trace {
+    let mut run = Trace::new(PORTS, load, CENTRAL);
     run.blocks = [&run.blocks[..]; 4].concat();
+    run
+}
+
+pub fn section() {
+    let run = long_run(HALF);
     println!("\n## The replay of a trace, 16 ports, central, half load\n");
     println!(
         "From the bytes of a file of {} slots to their tables, all checks included, against the",

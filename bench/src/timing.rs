@@ -65,16 +65,19 @@ fn median(mut times: Vec<f64>) -> f64 {
     times[times.len() / 2]
 }
 
-/// Seconds for one of the `pieces` that each run of the work does.
-pub fn compare(pieces: usize, mut ours: impl FnMut(), mut rust: impl FnMut()) -> Times {
-    let (our_runs, rust_runs) = (repeats(&mut ours), repeats(&mut rust));
-    let (mut our_times, mut rust_times) = (Vec::new(), Vec::new());
+/// Seconds for one of the `pieces` that each run of the work does, for each contender.
+pub fn compare_all<const N: usize>(pieces: usize, mut work: [&mut dyn FnMut(); N]) -> [f64; N] {
+    let runs = work.each_mut().map(|contender| repeats(contender));
+    let mut times = [(); N].map(|()| Vec::new());
     for _ in 0..BATCHES {
-        our_times.push(batch(&mut ours, our_runs));
-        rust_times.push(batch(&mut rust, rust_runs));
+        for k in 0..N {
+            times[k].push(batch(work[k], runs[k]));
+        }
     }
-    Times {
-        ours: median(our_times) / pieces as f64,
-        rust: median(rust_times) / pieces as f64,
-    }
+    times.map(|batches| median(batches) / pieces as f64)
+}
+
+pub fn compare(pieces: usize, mut ours: impl FnMut(), mut rust: impl FnMut()) -> Times {
+    let [ours, rust] = compare_all(pieces, [&mut ours, &mut rust]);
+    Times { ours, rust }
 }

@@ -22,7 +22,7 @@ use Rattle.frames.specs.declared.held.Held.{Held}
 use Rattle.frames.proofs.HeldLaws.{length-held, held-reads}
 use Rattle.ports.specs.declared.state.State.{State}
 use Rattle.shelf.specs.Hosts.{hostsOf}
-use Rattle.shelf.specs.Grants.{grantFor, granted}
+use Rattle.shelf.specs.Grants.{grantOf, grantFor, granted}
 use Rattle.shelf.specs.Step.{output}
 use Rattle.shelf.proofs.Granting.{agreeing}
 use Rattle.demands.specs.SlotCall.{SlotCall, number, sets, outputAfter}
@@ -60,7 +60,7 @@ module _ (m : ℕ) (most : m ≤ mostPorts) (st : State) (c : SlotCall) (done : 
 
   module _ (i : ℕ) (i< : i < n) where
     in-form : heldInForm (setBytes n) (grant i) ≡ true
-    unfolding heldInForm grantFor
+    unfolding heldInForm grantOf
     in-form =
         let ports = whole m st c done .most-ports in
         every (lt-ltb i (setBits (setBytes n)) (omega arith))
@@ -75,7 +75,7 @@ module _ (m : ℕ) (most : m ≤ mostPorts) (st : State) (c : SlotCall) (done : 
 
     -- Host i's grant frame in the output of a served slot says what documents 01 and 02 say.
     pub grant-told : Told n (sets m st c) (c .block) (c .link) i (readHeld (setBytes n) (grantPart n (outputAfter m st c) i))
-    unfolding grantFor
+    unfolding grantOf
     grant-told = subst (Told n (sets m st c) (c .block) (c .link) i) (sym (ap (readHeld (setBytes n)) in-place ∙ held-reads (setBytes n) (grant i) in-form)) (record {
       correct = refl;
       node = refl;

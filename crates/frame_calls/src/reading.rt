@@ -65,21 +65,21 @@ fn show_part(len: usize, number: u8, frame: &[u8], part: &mut [u8]) -> u32
     0
 }
 
-pub fn show_config(frame: &[u8], part: &mut [u8]) -> u32
+pub(crate) fn show_config(frame: &[u8], part: &mut [u8]) -> u32
     ensures { λ r. ⌜ (r ≡ partNumber configLen (readConfig (now (frame .entry)) .number) (now (part .entry))) × (now (part .exit) ≡ partAfter configLen (readConfig (now (frame .entry)) .number) (now (frame .entry)) (now (part .entry))) ⌝ }
 {
     let number = config_number(frames::read_config(frame));
     show_part(Config::LEN, number, frame, part)
 }
 
-pub fn show_grant(frame: &[u8], part: &mut [u8]) -> u32
+pub(crate) fn show_grant(frame: &[u8], part: &mut [u8]) -> u32
     ensures { λ r. ⌜ (r ≡ partNumber grantLen (readGrant (now (frame .entry)) .number) (now (part .entry))) × (now (part .exit) ≡ partAfter grantLen (readGrant (now (frame .entry)) .number) (now (frame .entry)) (now (part .entry))) ⌝ }
 {
     let number = grant_number(frames::read_grant(frame));
     show_part(Grant::LEN, number, frame, part)
 }
 
-pub fn show_held(frame: &[u8], part: &mut [u8]) -> u32
+pub(crate) fn show_held(frame: &[u8], part: &mut [u8]) -> u32
     ensures { λ r. ⌜ (r ≡ partNumber (heldLen narrow) (readHeld narrow (now (frame .entry)) .number) (now (part .entry))) × (now (part .exit) ≡ partAfter (heldLen narrow) (readHeld narrow (now (frame .entry)) .number) (now (frame .entry)) (now (part .entry))) ⌝ }
 {
     let number = held_number(frames::read_held(frame));

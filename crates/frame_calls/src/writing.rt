@@ -5,7 +5,7 @@ ghost use Rattle.frames.specs.Held.{writeHeldNumber, writeHeldOutput};
 ghost use Rattle.frame_calls.specs.Shown.{heldOf5};
 use frames::Held;
 
-pub fn write_held(node: u32, val: u32, link: u32, crc: u32, set: u16, out: &mut [u8]) -> u32
+pub(crate) fn write_held(node: u32, val: u32, link: u32, crc: u32, set: u16, out: &mut [u8]) -> u32
     ensures { λ r. ⌜ (r ≡ writeHeldNumber narrow (heldOf5 node val link crc set) (now (out .entry))) × (now (out .exit) ≡ writeHeldOutput narrow (heldOf5 node val link crc set) (now (out .entry))) ⌝ }
 {
     if Held::BITS as u32 <= node {

@@ -23,20 +23,18 @@ use Rattle.choices.specs.declared.work.Work.{Work}
 use Rattle.choices.specs.declared.work.Run.{Run}
 
 -- the modes that the central form ends, and those of the distributed form
-module _ (m : ℕ) (st : State) (mode : Mode) (s : Work) (ready : Ready m st) where
-  pub by-targets : {o u : Work} → OneOf (0 ∷ 2 ∷ []) (tagOf T.the-type mode) → o ≡ opened st mode s → u ≡ central (orderly m st) o (orderly m st .ports)
-      → _≡_ {A = Run} (record { work = u; rounds = 0 }) (serveMode st mode s)
+module _ (st : State) (mode : Mode) (s : Work) where
+  pub by-targets : {o : Work} {u : List ℕ} → OneOf (0 ∷ 2 ∷ []) (tagOf T.the-type mode) → o ≡ opened st mode s → u ≡ central st o (st .ports) .held
+      → (u ≡ serveMode st mode s .work .held) × (0 ≡ serveMode st mode s .rounds)
   unfolding serveMode diagonalFirst
   by-targets {o} {u} k p e = go mode k p
     where
-      is : u ≡ central st o (st .ports)
-      is = rw (orderly-same m st ready) at e
-
-      go : (mode : Mode) → OneOf (0 ∷ 2 ∷ []) (tagOf T.the-type mode) → o ≡ opened st mode s → _≡_ {A = Run} (record { work = u; rounds = 0 }) (serveMode st mode s)
-      go Central k p = rw (is, p)
+      go : (mode : Mode) → OneOf (0 ∷ 2 ∷ []) (tagOf T.the-type mode) → o ≡ opened st mode s → (u ≡ serveMode st mode s .work .held) × (0 ≡ serveMode st mode s .rounds)
+      go Central k p = (rw (e, p), refl)
       go (Distributed limit) k p = absurd (⊎-elim (λ z. omega arith) (λ z. omega arith) k)
-      go Diagonal k p = rw (is, p)
+      go Diagonal k p = (rw (e, p), refl)
 
+module _ (m : ℕ) (st : State) (mode : Mode) (s : Work) (ready : Ready m st) where
   pub by-rounds : (limit : ℕ) {u : Run} → mode ≡ Distributed limit → wrongLimit m mode ≡ false → u ≡ distributed (orderly m st) (min limit m) s → u ≡ serveMode st mode s
   unfolding serveMode
   by-rounds limit is h e =

@@ -1,8 +1,8 @@
 // One slot on tables: rules 3 to 7.
 use central::serve_targets;
 use central::take_diagonal;
-use choices::Run;
 use choices::Work;
+use columns::serve_columns;
 use distributed::serve_rounds;
 use planned::start;
 use ports::Answer;
@@ -20,6 +20,7 @@ ghost use Prim.Native.Nat.{_+_, _%_, _<_};
 ghost use Rattle.frames.specs.Part.{mostPorts};
 ghost use Rattle.ports.specs.Ready.{Ready};
 ghost use Rattle.ports.specs.Due.{wrongLimit};
+ghost use Rattle.central.specs.Central.{central};
 ghost use Rattle.lcf.specs.Advance.{advance};
 ghost use Rattle.lcf.specs.Slot.{opened, serveMode, ended, slotOnTables, finishDue};
 
@@ -69,31 +70,59 @@ fn opened(state: State, mode: Mode, work: Work) -> Work
     }
 }
 
+// From so many ports on the columns are faster than the plain rule, with which they agree.
+const COLUMNS_FROM: usize = 5;
+
+// Rule 5, the faster way.
+fn serve_central(state: State, work: Work) -> Table
+    requires { ⌜ Ready mostPorts state ⌝ }
+    ensures { λ r. ⌜ r ≡ (central state work (state .ports)) .held ⌝ }
+{
+    if state.ports < COLUMNS_FROM {
+        let after = serve_targets(state, work);
+        let held = after.held;
+        held
+    } else {
+        serve_columns(state, work)
+    }
+}
+
+// What a slot connects, and the rounds that it took.
+pub struct Matched {
+    pub sets: Table,
+    pub rounds: u8,
+}
+
 // Rules 5 and 6, and diagonal-first. One call serves by the central form, so that it needs no frame of its own.
-fn serve_mode(state: State, mode: Mode, work: Work) -> Run
+fn serve_mode(state: State, mode: Mode, work: Work) -> Matched
     requires { ⌜ (Ready mostPorts state) × (wrongLimit mostPorts mode ≡ false) ⌝ }
-    ensures { λ r. ⌜ r ≡ serveMode state mode work ⌝ }
+    ensures { λ r. ⌜ (r .sets ≡ serveMode state mode work .work .held) × (r .rounds ≡ serveMode state mode work .rounds) ⌝ }
 {
     let Mode::Distributed(limit) = mode else {
-        return Run {
-            work: serve_targets(state, opened(state, mode, work)),
+        return Matched {
+            sets: serve_central(state, opened(state, mode, work)),
             rounds: 0,
         };
     };
-    serve_rounds(state, limit, work)
+    let run = serve_rounds(state, limit, work);
+    let after = run.work;
+    let sets = after.held;
+    Matched {
+        sets,
+        rounds: run.rounds,
+    }
 }
 
-fn ended(state: State, run: Run) -> Stepped
+fn ended(state: State, matched: Matched) -> Stepped
     requires { ⌜ Ready mostPorts state ⌝ }
-    ensures { λ r. ⌜ r ≡ ended state run ⌝ }
+    ensures { λ r. ⌜ r ≡ record { state = advance state; answer = record { number = 0; rounds = matched .rounds; sets = matched .sets } } ⌝ }
 {
-    let work = run.work;
-    let sets = work.held;
+    let sets = matched.sets;
     Stepped {
         state: advance(state),
         answer: Answer {
             number: 0,
-            rounds: run.rounds,
+            rounds: matched.rounds,
             sets,
         },
     }

@@ -1,4 +1,8 @@
-// What the tests and the benchmark call beside the C form: the checks alone.
+// What the tests and the benchmark call beside the C form: the checks and rule 5 alone.
+mod central_rule;
+
+pub use central_rule::measured_columns;
+pub use central_rule::measured_plain;
 ghost use mathlib.Core.Path.{_≡_};
 ghost use lib.ListN.{length};
 ghost use Rattle.words.specs.Check.{crcOf};

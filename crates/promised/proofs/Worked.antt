@@ -23,7 +23,7 @@ use Rattle.lcf.specs.Slot.{diagonalFirst, serveMode, matched, ended, slotOnTabl
 use Rattle.distributed.specs.Distributed.{askers, grants, offers, accepted, answer, round, oneMore, distributed}
 use Rattle.lcf.specs.Advance.{advance}
 use Rattle.shelf.specs.Hosts.{said, hostsOf}
-use Rattle.shelf.specs.Grants.{grantFor, granted}
+use Rattle.shelf.specs.Grants.{grantOf, granted}
 use Rattle.shelf.specs.Step.{refusal, slotOnHosts, stepped, output}
 use Rattle.bellacush.specs.Slot.{stateOf, stateBytes, stateAfter, tableAfter, fits, run, slotWord, slotState, slotTable, slotOutput}
 use Rattle.promised.specs.Call.{Handed, promise}
@@ -79,5 +79,5 @@ pub worked : (promise mostPorts (4 ∷ 3 ∷ 1 ∷ 1 ∷ 2 ∷ 3 ∷ 4 ∷ 77 �
       out = (3 ∷ 0 ∷ 0 ∷ 0 ∷ 0 ∷ 255 ∷ 222 ∷ 3 ∷ 1 ∷ 3 ∷ 0 ∷ 2 ∷ 240 ∷ 120 ∷ 3 ∷ 2 ∷ 0 ∷ 0 ∷ 0 ∷ 18 ∷ 182 ∷ []) ++ replicate 8 9;
       table = 0 ∷ 0 ∷ 0 ∷ 2 ∷ 0 ∷ 0 ∷ replicate (mostPorts * 2 - 6) 0;
     })
-unfolding ones trailingZeros steps bigEndian numberFrom crcBit crcByte crcFrom intact formNumber configOf heldFrame hostNumber present counted choice join joinLive planner give planned fewest winner serve askers grants offers accepted answer round oneMore distributed diagonalFirst advance within start serveMode matched behind wrongLimit dueNumber declined ended slotOnTables said hostsOf grantFor granted refusal slotOnHosts stepped output stateOf stateBytes modeOf stateAfter tableAfter fits run slotWord slotState slotTable slotOutput
+unfolding ones trailingZeros steps bigEndian numberFrom crcBit crcByte crcFrom intact formNumber configOf heldFrame hostNumber present counted choice join joinLive planner give planned fewest winner serve askers grants offers accepted answer round oneMore distributed diagonalFirst advance within start serveMode matched behind wrongLimit dueNumber declined ended slotOnTables said hostsOf grantOf granted refusal slotOnHosts stepped output stateOf stateBytes modeOf stateAfter tableAfter fits run slotWord slotState slotTable slotOutput
 worked = (refl, refl, refl)

@@ -12,9 +12,11 @@ use Rattle.frames.specs.Part.{toldLen}
 use Rattle.frames.specs.declared.held.Held.{Held}
 
 -- what host i is told: all the targets that it holds
-unfoldable pub grantFor : ℕ → ℕ → List ℕ → ℕ → Held
-grantFor heard link sets i =
-    record { nodeid = i; gntval = not (eqb (getD sets i 0) 0); linkerr = has link i; crcerr = not (has heard i); set = getD sets i 0 }
+unfoldable pub grantOf : ℕ → ℕ → ℕ → ℕ → Held
+grantOf heard link set i = record { nodeid = i; gntval = not (eqb set 0); linkerr = has link i; crcerr = not (has heard i); set = set }
+
+abbrev pub grantFor : ℕ → ℕ → List ℕ → ℕ → Held
+grantFor heard link sets i = grantOf heard link (getD sets i 0) i
 
 -- n grant frames, one after the other, and the rest of the output as it was
 unfoldable pub granted : ℕ → ℕ → ℕ → List ℕ → List ℕ → List ℕ

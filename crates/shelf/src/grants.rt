@@ -6,17 +6,17 @@ ghost use mathlib.Core.Bool.{true};
 ghost use Rattle.frames.specs.Width.{narrow};
 ghost use Rattle.frames.specs.Held.{heldInForm};
 ghost use Rattle.frames.specs.Part.{mostPorts, toldLen};
-ghost use Rattle.shelf.specs.Grants.{grantFor, granted};
+ghost use Rattle.shelf.specs.Grants.{grantOf, granted};
 use frames::Held;
 use ports::Set;
 use ports::Table;
 use words::holds;
 
-fn grant_for(heard: Set, link: Set, sets: Table, i: usize) -> Held
+// The set alone, for a table that is handed on is copied for each host.
+fn grant_for(heard: Set, link: Set, set: Set, i: usize) -> Held
     requires { ⌜ i < mostPorts ⌝ }
-    ensures { λ r. ⌜ (r ≡ grantFor heard link sets i) × (heldInForm narrow r ≡ true) ⌝ }
+    ensures { λ r. ⌜ (r ≡ grantOf heard link set i) × (heldInForm narrow r ≡ true) ⌝ }
 {
-    let set = sets[i];
     Held {
         nodeid: i as u8,
         gntval: set != 0,
@@ -32,6 +32,6 @@ pub(crate) fn write_grants(ports: usize, heard: Set, link: Set, sets: Table, out
 {
     for i in 0..ports {
         let at = i * Held::LEN;
-        frames::write_held(grant_for(heard, link, sets, i), &mut out[at..]);
+        frames::write_held(grant_for(heard, link, sets[i], i), &mut out[at..]);
     }
 }

@@ -1,10 +1,6 @@
 use borrow.Author.Needs.{needs}
-use Rattle.lcf.specs.Slot.{ended}
 use Rattle.lcf.proofs.slot.ended.Statement.{statement}
 use Rattle.lcf.proofs.slot.ended.Tie as tie
 
 pub ended-spec : {M : Type 1} → statement M
-unfolding ended
-ended-spec =
-    tie.close
-    (tie.spec (λ c κs. search needs) (λ c. rw (c .advance .ensures)))
+ended-spec = tie.close (tie.spec (λ c κs. search needs) (λ c. rw (c .advance .ensures)))

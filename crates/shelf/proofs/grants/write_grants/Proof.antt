@@ -6,10 +6,10 @@ use Rattle.shelf.proofs.grants.write_grants.Statement.{statement}
 use Rattle.shelf.proofs.grants.write_grants.Tie as tie
 
 abbrev Inv-loop : tie.InvT-loop
-Inv-loop ports heard link sets out₀ i₀ out i = (i ≤ ports) × Granted ports heard link sets out₀ i out
+Inv-loop ports heard link out₀ sets i₀ out i = (i ≤ ports) × Granted ports heard link sets out₀ i out
 
 abbrev μ-loop : tie.MeasureT-loop
-μ-loop ports heard link sets out₀ i₀ out i = ports - i
+μ-loop ports heard link out₀ sets i₀ out i = ports - i
 
 loop-again : tie.Need-loop-again Inv-loop μ-loop
 loop-again c =
@@ -20,7 +20,7 @@ pub write-grants-spec : {M : Type 1} → statement M
 write-grants-spec =
     tie.close
     (tie.spec Inv-loop μ-loop
-    (λ c. (search needs, none-granted _ _ _ _ _)) (λ c. search needs) (λ c κs. search needs)
+    (λ c. (search needs, none-granted _ _ _ _ _)) (λ c. search needs) (λ c. search needs) (λ c. search needs) (λ c κs. search needs)
     (λ c. omega (arith, c .before .before .loop .inv .1 .as-long)) (λ c. omega (arith, c .before .before .loop .inv .1 .as-long))
     (λ c. omega (arith, c .before .before .loop .inv .1 .as-long)) (λ c κs. search needs)
     (λ c. search needs) (λ c. search needs) loop-again

@@ -4,28 +4,32 @@ ghost use Rattle.frames.specs.Width.{narrow};
 ghost use Rattle.frames.specs.Config.{configLen, readConfig, writeConfigNumber, writeConfigOutput};
 ghost use Rattle.frames.specs.Grant.{grantLen, readGrant};
 ghost use Rattle.frames.specs.Held.{heldLen, readHeld, writeHeldNumber, writeHeldOutput};
 ghost use Rattle.frame_calls.specs.Shown.{partNumber, partAfter, heldOf5};
+use crate::reading::show_config;
+use crate::reading::show_grant;
+use crate::reading::show_held;
+use crate::writing::write_held;
 use frames::Config;
 
 #[no_mangle]
 pub extern "C" fn bellacush_read_config(frame: &[u8], part: &mut [u8]) -> u32
     ensures { λ r. ⌜ (r ≡ partNumber configLen (readConfig (now (frame .entry)) .number) (now (part .entry))) × (now (part .exit) ≡ partAfter configLen (readConfig (now (frame .entry)) .number) (now (frame .entry)) (now (part .entry))) ⌝ }
 {
-    frame_calls::show_config(frame, part)
+    show_config(frame, part)
 }
 
 #[no_mangle]
 pub extern "C" fn bellacush_read_grant(frame: &[u8], part: &mut [u8]) -> u32
     ensures { λ r. ⌜ (r ≡ partNumber grantLen (readGrant (now (frame .entry)) .number) (now (part .entry))) × (now (part .exit) ≡ partAfter grantLen (readGrant (now (frame .entry)) .number) (now (frame .entry)) (now (part .entry))) ⌝ }
 {
-    frame_calls::show_grant(frame, part)
+    show_grant(frame, part)
 }
 
 #[no_mangle]
 pub extern "C" fn bellacush_read_grant3(frame: &[u8], part: &mut [u8]) -> u32
     ensures { λ r. ⌜ (r ≡ partNumber (heldLen narrow) (readHeld narrow (now (frame .entry)) .number) (now (part .entry))) × (now (part .exit) ≡ partAfter (heldLen narrow) (readHeld narrow (now (frame .entry)) .number) (now (frame .entry)) (now (part .entry))) ⌝ }
 {
-    frame_calls::show_held(frame, part)
+    show_held(frame, part)
 }
 
 #[no_mangle]
@@ -52,5 +56,5 @@ pub extern "C" fn bellacush_write_grant3(
 ) -> u32
     ensures { λ r. ⌜ (r ≡ writeHeldNumber narrow (heldOf5 node val link crc set) (now (out .entry))) × (now (out .exit) ≡ writeHeldOutput narrow (heldOf5 node val link crc set) (now (out .entry))) ⌝ }
 {
-    frame_calls::write_held(node, val, link, crc, set, out)
+    write_held(node, val, link, crc, set, out)
 }

@@ -1,0 +1,3 @@
+pub mod Transpose
+pub mod Planes
+pub mod Serving
