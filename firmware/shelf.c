@@ -3,7 +3,8 @@
  * twice, the second time by the standby link. First as built, where the copy is refused; then the
  * faulty way, where the card takes each copy for a new slot. Prints what both did, and what the
  * operators' charts make of it: the old one drew slots asked, the ledger counts a request once.
- * The slots as built can be kept in a trace, from which `replay` makes their tables again.
+ * The slots as built can be kept in a trace, from which `replay` makes their tables again. Two
+ * operators can share the shelf.
  */
 #include <stdio.h>
 #include <stdlib.h>
@@ -19,17 +20,18 @@
 
 static const char usage[] =
     "usage: shelf [ports=4] [load=90] [mode=central] [slots=160] [seed=1]\n"
-    "             [trace=FILE] [tables]\n"
+    "             [second=0] [trace=FILE] [tables]\n"
     "  ports  hosts on the shelf, 1 to 16\n"
     "  load   chance in percent that a new cell comes for a pair in a slot, 0 to 100\n"
     "  mode   central, diagonal, or the round limit of the distributed form, 1 to 16\n"
     "  slots  slots to play, 1 to 1000000; ten turns for each pair if not said\n"
     "  seed   of the random traffic, 0 to 4294967295\n"
+    "  second how many ports, the last ones, are a second operator's, 0 to 15\n"
     "  trace  file to keep the slots in, as built; it holds 368640 of them\n"
     "  tables print just the table of each slot, as built: its number, and who holds what\n";
 
 struct settings {
-    unsigned long ports, load, mode, slots, seed;
+    unsigned long ports, load, mode, slots, seed, second;
     const char *trace; /* the name of its file, or NULL */
     int tables;
 };
@@ -116,6 +118,8 @@ static void take(struct settings *set, const char *argument)
         set->slots = number_of(argument, 1, 1000000);
     else if (names(argument, "seed"))
         set->seed = number_of(argument, 0, 4294967295ul);
+    else if (names(argument, "second"))
+        set->second = number_of(argument, 0, MOST - 1);
     else if (names(argument, "trace") && argument[strlen("trace=")] != '\0')
         set->trace = argument + strlen("trace=");
     else if (strcmp(argument, "tables") == 0)
@@ -135,10 +139,33 @@ static uint32_t next_random(struct shelf *shelf)
     return shelf->random;
 }
 
-/* The host that sends to every target, as a backup would. */
+/* The first port of the second operator; where there is none, it is past the last port. */
+static unsigned second_from(const struct settings *set)
+{
+    return (unsigned)(set->ports - set->second);
+}
+
+static unsigned operator_of(const struct settings *set, unsigned port)
+{
+    return port >= second_from(set);
+}
+
+/* The host that sends to every target of its operator, as a backup would. */
 static unsigned busy_host(const struct settings *set)
 {
-    return set->ports > 1 ? 1u : 0u;
+    return second_from(set) > 1 ? 1u : 0u;
+}
+
+/* The target that every host of an operator sends to. */
+static unsigned popular(const struct settings *set, unsigned operator_number)
+{
+    return operator_number == 0 ? POPULAR_TARGET : second_from(set);
+}
+
+static int used(const struct settings *set, unsigned i, unsigned t)
+{
+    unsigned own = operator_of(set, i);
+    return operator_of(set, t) == own && (i == busy_host(set) || t == popular(set, own));
 }
 
 /* New cells: from the busy host to every target, and from every host to the popular one. */
@@ -147,11 +174,9 @@ static void new_cells(struct shelf *shelf)
     unsigned i, t;
 
     for (i = 0; i < shelf->set->ports; i++)
-        for (t = 0; t < shelf->set->ports; t++) {
-            int used = i == busy_host(shelf->set) || t == POPULAR_TARGET;
-            if (used && next_random(shelf) % 100u < shelf->set->load)
+        for (t = 0; t < shelf->set->ports; t++)
+            if (used(shelf->set, i, t) && next_random(shelf) % 100u < shelf->set->load)
                 shelf->waiting[i][t]++;
-        }
 }
 
 /* The card */
@@ -203,7 +228,8 @@ static void count_slot(struct shelf *shelf, const struct slot *slot)
 
     shelf->served++;
     expect("bellacush_asked",
-           bellacush_asked(n, slot->block, BELLACUSH_BLOCK_LEN(n), asked, sizeof asked),
+           bellacush_asked(shelf->state, sizeof shelf->state, slot->block, BELLACUSH_BLOCK_LEN(n),
+                           asked, sizeof asked),
            BELLACUSH_DONE);
     expect("bellacush_feed",
            bellacush_feed(shelf->ledger, BELLACUSH_LEDGER_LEN, n, asked, sizeof asked, slot->table,
@@ -506,9 +532,17 @@ static void print_moral(const struct shelf *built, const struct shelf *faulty)
 
 static void start(struct shelf *shelf, const struct settings *set)
 {
+    uint8_t operators[MOST];
+    unsigned p;
+
+    for (p = 0; p < MOST; p++)
+        operators[p] = (uint8_t)operator_of(set, p);
     memset(shelf, 0, sizeof *shelf);
     shelf->set = set;
-    shelf->state[0] = (uint8_t)set->ports;
+    expect("bellacush_fresh",
+           bellacush_fresh((uint32_t)set->ports, 0, operators, sizeof operators, shelf->state,
+                           sizeof shelf->state),
+           BELLACUSH_DONE);
     shelf->random = (uint32_t)set->seed * 2654435769u | 1u; /* the generator would stay at 0 */
 }
 
@@ -559,6 +593,9 @@ static void print_shelf(const struct settings *set)
     else
         printf("distributed with %lu rounds at most", set->mode);
     printf(", %lu slots, seed %lu.\n", set->slots, set->seed);
+    if (set->second > 0)
+        printf("The last %lu are a second operator's, whose hosts send to target %u.\n",
+               set->second, popular(set, 1));
     printf("Host %u sends to all targets, the others to target %u; every block comes twice.\nSlot 0:",
            busy_host(set), POPULAR_TARGET);
 }
@@ -573,6 +610,10 @@ static int settle(struct settings *set, int argc, char **argv)
             return 0;
         take(set, argv[k]);
     }
+    if (set->second >= set->ports)
+        refuse("second", "the first operator is left no port");
+    if (set->trace != NULL && set->second > 0)
+        refuse(set->trace, "a trace stands for a shelf of one operator");
     if (set->slots == 0)
         set->slots = 10 * set->ports * set->ports;
     if (set->trace != NULL && set->slots > MOST_TRACED)
@@ -601,7 +642,7 @@ static void tell(const struct settings *set)
 
 int main(int argc, char **argv)
 {
-    struct settings set = {4, 90, BELLACUSH_CENTRAL, 0, 1, NULL, 0};
+    struct settings set = {4, 90, BELLACUSH_CENTRAL, 0, 1, 0, NULL, 0};
     static struct shelf shelf;
 
     if (!settle(&set, argc, argv))

@@ -32,7 +32,7 @@ extern "C" {
 #define BELLACUSH_MOST_PORTS 16
 
 /* Lengths in bytes. */
-#define BELLACUSH_STATE_LEN 7        /* n, I, J, then the due slot in four, high byte first */
+#define BELLACUSH_STATE_LEN 9        /* n, I, J, the due slot in four, the owners in two */
 #define BELLACUSH_TABLE_LEN 32       /* sixteen sets of targets, two bytes each, high byte first */
 #define BELLACUSH_CONFIG_LEN 11      /* type 1, req, pre, ben, qen, check */
 #define BELLACUSH_CONFIG_PART_LEN 8  /* req, pre, ben, qen */
@@ -102,8 +102,9 @@ enum bellacush_number {
     BELLACUSH_OUT_TOO_SHORT = 7,    /* output below 7 n for a slot, 11 or 7 for one frame; for a
                                        trace or body, below its length; for tables, below 32
                                        for each slot */
-    BELLACUSH_BAD_LEN = 8,          /* a state, table, frame, part, ledger, figures, or words to
-                                       show of a trace or body, of another length */
+    BELLACUSH_BAD_LEN = 8,          /* a state, table, frame, part, ledger, figures, operator
+                                       numbers, or words to show of a trace or body, of another
+                                       length */
     BELLACUSH_BAD_TYPE = 9,         /* frame type other than asked for */
     BELLACUSH_BAD_CHECK = 10,       /* the frame's check differs */
     BELLACUSH_BAD_GRANT_FIELD = 11, /* bits 3 to 7 of the flags set, nodeId above 15, gntVal
@@ -111,8 +112,9 @@ enum bellacush_number {
                                        figures, initiator or target above 15 */
     BELLACUSH_BAD_LEDGER = 13,      /* 4294967295 slots are counted already, or a figure of the
                                        ledger is above its slots counted */
-    BELLACUSH_BAD_TRACE = 14        /* anything that departs from the layout of a trace, or a
+    BELLACUSH_BAD_TRACE = 14,       /* anything that departs from the layout of a trace, or a
                                        body number at or above the count */
+    BELLACUSH_BAD_OPERATOR = 15     /* an operator number above 1 on a port below n */
 };
 
 /* What bellacush_slot returns, taken apart: the number, and the rounds that were run. */
@@ -120,10 +122,32 @@ enum bellacush_number {
 #define BELLACUSH_ROUNDS(word) ((uint32_t)(word) / 256u)
 
 /*
+ * Makes a fresh state: n ports, offsets I = 0 and J = 0, and the slot that is due first.
+ *
+ * operators  16 bytes: the operator of port p, 0 or 1, in byte p, whatever n is. Bytes from n on
+ *            are ignored, and the ports there count as operator 0's. Zeros make a shelf of one
+ *            operator.
+ * state      9 bytes: gets n, I, J, a byte each, the due slot in four and the owners in two, high
+ *            byte first. Bit p of the owners is set if port p is operator 1's. Every call keeps
+ *            them.
+ *
+ * Returns BELLACUSH_DONE. Otherwise state keeps every byte. Tested in order: 8 (operators other
+ * than 16 bytes, state other than 9), 1, 15.
+ *
+ * Two operators can share a shelf. No connection joins ports of different operators, and what
+ * the hosts of one send does not show in what the other gets: for the same state, slot, mode,
+ * link word and lengths, the number returned, the next state, its sets in the table and its
+ * grant frames are the same, byte for byte, whatever the other's hosts send; and so on from slot
+ * to slot. Only the rounds in the returned word are shared.
+ */
+uint32_t bellacush_fresh(uint32_t n, uint32_t due, const uint8_t *operators, size_t operators_len,
+                         uint8_t *state, size_t state_len);
+
+/*
  * Serves one slot.
  *
- * state  7 bytes: the ports n, the initiator offset I, the target offset J, the due slot. A
- *        fresh state has I = 0, J = 0 and the first slot's number as due.
+ * state  9 bytes, as bellacush_fresh makes them: the ports n, the initiator offset I, the target
+ *        offset J, the due slot and the owners.
  * slot   the number of the slot that the block belongs to.
  * mode   BELLACUSH_CENTRAL; 1 to 16, the round limit of the distributed form; or
  *        BELLACUSH_DIAGONAL: after the planned connections each pair ((I + k) mod n,
@@ -131,8 +155,9 @@ enum bellacush_number {
  *        is connected, and then the central form serves the rest.
  * block  11 n bytes: the configuration frame of host h from byte 11 h; a missing frame is
  *        eleven zeros. A host is heard if its frame is correct. An unheard host asks for
- *        nothing, plans nothing and votes on nothing; it never declines the slot. A host is
- *        enabled unless two different heard hosts have its bit clear in ben; if not, it asks
+ *        nothing, plans nothing and votes on nothing; it never declines the slot. Bits of req
+ *        and pre towards the other operator's ports are ignored. A host is enabled unless two
+ *        different heard hosts of its own operator have its bit clear in ben; if not, it asks
  *        for nothing and plans nothing, and its vote still counts. So one host by itself,
  *        whatever it sends, disables nobody.
  * link   bit i is handed on as linkErr of host i.
@@ -154,7 +179,8 @@ enum bellacush_number {
  *
  * Whatever the other hosts send, a pair is connected in at least W / n^2, rounded down, of any
  * W slots served one after another if in each of them its host is heard, enabled, asks for the
- * target and plans nothing, and no enabled host plans that target. The modes may change from slot
+ * target, which is its own operator's, and plans nothing, and no enabled host plans that target
+ * (what is towards the other operator's ports is no plan). The modes may change from slot
  * to slot. If all of them are in mode BELLACUSH_DIAGONAL, it is connected at least once in any
  * n + 1 of them, and at least n times in any n^2; for n of 2 or more others can keep it out for n.
  */
@@ -190,21 +216,26 @@ uint32_t bellacush_slot(uint8_t *state, size_t state_len, uint32_t slot, uint32_
  * and its copy refused, so the copy is not fed and changes no figure.
  *
  *      if (BELLACUSH_NUMBER(bellacush_slot(..., block, ..., table, ...)) == BELLACUSH_DONE) {
- *          bellacush_asked(n, block, block_len, asked, BELLACUSH_TABLE_LEN);
+ *          bellacush_asked(state, BELLACUSH_STATE_LEN, block, block_len,
+ *                          asked, BELLACUSH_TABLE_LEN);
  *          bellacush_feed(ledger, BELLACUSH_LEDGER_LEN, n, asked, BELLACUSH_TABLE_LEN,
  *                         table, BELLACUSH_TABLE_LEN);
  *      }
  */
 
 /*
- * Writes the sets asked of a block of n hosts to table: 32 bytes, laid out as bellacush_slot
- * writes the sets connected. Initiator i asks for target t if its host is heard and enabled,
- * bit t of its req is set, and i and t are below n; whether it also plans makes no difference.
+ * Writes the sets asked of a block to table: 32 bytes, laid out as bellacush_slot writes the sets
+ * connected. Of the state it looks at the ports n and the owners, which no slot changes, so the
+ * state before the slot and the one after it serve alike. Initiator i asks for target t if its
+ * host is heard and enabled, bit t of its req is set, i and t are below n and of one operator;
+ * whether it also plans makes no difference.
  *
- * Returns BELLACUSH_DONE. Otherwise table keeps every byte. Tested in order: 8 (table other
- * than 32 bytes), 1, 6. For the n and block of a served slot it never declines.
+ * Returns BELLACUSH_DONE. Otherwise table keeps every byte. Tested in order: 8 (state other than
+ * 9 bytes, table other than 32), 1, 6. For the state and block of a served slot it never
+ * declines.
  */
-uint32_t bellacush_asked(uint32_t n, const uint8_t *block, size_t block_len,
+uint32_t bellacush_asked(const uint8_t *state, size_t state_len,
+                         const uint8_t *block, size_t block_len,
                          uint8_t *table, size_t table_len);
 
 /*
@@ -348,7 +379,8 @@ uint32_t bellacush_entry(const uint8_t *start, size_t start_len, uint32_t k,
  * tables  at least 32 times slots bytes; 11520 are enough for any body.
  *
  * The tables are those that bellacush_slot wrote, in the body's mode, from the state of n, the
- * body's I and J and first as the due slot, for one block after the other.
+ * body's I and J, first as the due slot and no port of operator 1, for one block after the
+ * other. A trace has no owners: it stands for a shelf of one operator.
  *
  * Returns BELLACUSH_DONE. Otherwise tables keeps every byte. Tested in order: 14 (n outside 1 to
  * 16, slots outside 1 to 360, or not a body of so many slots for n ports), 7.
@@ -361,7 +393,7 @@ uint32_t bellacush_replay(uint32_t n, uint32_t first, uint32_t slots,
  * Writes a body to the first BELLACUSH_BODY_LEN(n, slots) bytes of out; bytes beyond are not
  * touched. To record slots, keep the mode, n, I, J and the due slot (its first slot) of the state
  * before the first of them, and the block of each that is served; a copy that is refused is not
- * recorded.
+ * recorded. The owners are not kept: record shelves of one operator.
  *
  * mode    BELLACUSH_CENTRAL, the round limit of the distributed form, or BELLACUSH_DIAGONAL.
  * i, j    the offsets I and J before the first slot.

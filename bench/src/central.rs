@@ -4,7 +4,7 @@
 
 use bellacush_tests::calls;
 use bellacush_tests::measured;
-use bellacush_tests::slots::TABLE_LEN;
+use bellacush_tests::slots::{State, TABLE_LEN};
 
 use crate::plain::{Place, Rows, Work};
 use crate::timing::compare_all;
@@ -67,7 +67,8 @@ fn requests(trace: &Trace) -> Vec<Requests> {
         .map(|(k, block)| {
             let (i, j) = (k % n, k / n % n);
             let mut live = vec![0; TABLE_LEN];
-            assert_eq!(calls::asked(n as u32, block, &mut live), 0);
+            let state = State::fresh(n, 0).bytes();
+            assert_eq!(calls::asked(&state, block, &mut live), 0);
             Requests {
                 at: Place { n, i, j },
                 live,

@@ -2,7 +2,7 @@
 //! asked.
 
 use bellacush_tests::calls;
-use bellacush_tests::slots::TABLE_LEN;
+use bellacush_tests::slots::{State, TABLE_LEN};
 use std::hint::black_box;
 
 use crate::timing::{compare, Times};
@@ -24,7 +24,8 @@ fn tables(trace: &Trace) -> Vec<Tables> {
     slots
         .map(|block| {
             let mut asked = vec![0; TABLE_LEN];
-            assert_eq!(calls::asked(PORTS as u32, block, &mut asked), 0);
+            let state = State::fresh(PORTS, 0).bytes();
+            assert_eq!(calls::asked(&state, block, &mut asked), 0);
             (asked, player.connected(trace, block))
         })
         .collect()
@@ -64,21 +65,23 @@ fn measure(slots: &[Tables]) -> Times {
 
 fn asking(trace: &Trace) -> Times {
     let (mut our_table, mut rust_table) = ([0; TABLE_LEN], [0; TABLE_LEN]);
+    let state = State::fresh(PORTS, 0);
+    let (bytes, owners) = (state.bytes(), black_box(state.owners));
     for block in &trace.blocks {
-        calls::asked(PORTS as u32, block, &mut our_table);
-        plain_ledger::asked(PORTS, block, &mut rust_table);
+        calls::asked(&bytes, block, &mut our_table);
+        plain_ledger::asked(PORTS, owners, block, &mut rust_table);
         assert_eq!(our_table, rust_table);
     }
     compare(
         trace.blocks.len(),
         || {
             for block in black_box(&trace.blocks) {
-                calls::asked(PORTS as u32, block, &mut our_table);
+                calls::asked(&bytes, block, &mut our_table);
             }
         },
         || {
             for block in black_box(&trace.blocks) {
-                plain_ledger::asked(PORTS, block, &mut rust_table);
+                plain_ledger::asked(PORTS, owners, block, &mut rust_table);
             }
         },
     )

@@ -19,6 +19,7 @@ mod traces;
 use bellacush_tests::calls::{self, SlotCall};
 use bellacush_tests::frames::Config;
 use bellacush_tests::measured;
+use bellacush_tests::slots::STATE_LEN;
 use bellacush_tests::traffic::Traffic;
 use std::hint::black_box;
 use timing::{compare, Times, BATCHES, BATCH_MILLISECONDS};
@@ -254,7 +255,7 @@ fn stacks() {
     println!("| Mode | Bytes | Limit |");
     println!("|---|---|---|");
     for (mode, limit) in EVERY_MODE {
-        let bytes = most_stack(calls::SLOT, limit);
+        let bytes = most_stack(calls::SLOT, STATE_LEN, limit);
         let met = if bytes <= MOST_STACK { "met" } else { "missed" };
         println!("| {mode} | {bytes} | {met} |");
     }
@@ -262,7 +263,7 @@ fn stacks() {
 
 const EVERY_MODE: [(&str, u32); 4] = [MODES[0], MODES[1], ("distributed, limit 16", 16), MODES[2]];
 
-fn most_stack(call: SlotCall, limit: u32) -> usize {
+fn most_stack(call: SlotCall, state_len: usize, limit: u32) -> usize {
     let mixed = Traffic {
         asked: 32,
         planned: 4,
@@ -270,7 +271,7 @@ fn most_stack(call: SlotCall, limit: u32) -> usize {
         spoilt: 8,
     };
     let loads = [Traffic::requests(64), Traffic::requests(32), mixed];
-    let most = loads.map(|load| stack::used(call, &Trace::of(16, limit, load)));
+    let most = loads.map(|load| stack::used(call, state_len, &Trace::of(16, limit, load)));
     most.into_iter().max().unwrap_or(0)
 }
 
@@ -281,7 +282,7 @@ mod tests {
     #[test]
     fn a_slot_keeps_to_its_stack() {
         for (mode, limit) in EVERY_MODE {
-            let bytes = most_stack(calls::SLOT, limit);
+            let bytes = most_stack(calls::SLOT, STATE_LEN, limit);
             assert!(bytes <= MOST_STACK, "{mode}: {bytes} bytes of stack");
         }
     }

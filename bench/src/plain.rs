@@ -4,6 +4,7 @@
 const MOST_PORTS: usize = 16;
 const CONFIG_LEN: usize = 11;
 const GRANT_LEN: usize = 7;
+const STATE_LEN: usize = 9;
 const DIAGONAL: u32 = 17;
 
 pub type Rows = [u16; MOST_PORTS];
@@ -99,7 +100,7 @@ pub fn slot_by(
     out: &mut [u8],
     table: &mut [u8],
 ) -> u32 {
-    if state.len() != 7 || table.len() != 2 * MOST_PORTS {
+    if state.len() != STATE_LEN || table.len() != 2 * MOST_PORTS {
         return 8;
     }
     let due = u32::from_be_bytes([state[3], state[4], state[5], state[6]]);
@@ -112,7 +113,8 @@ pub fn slot_by(
     if number != 0 {
         return number;
     }
-    let (mut work, quiet) = begin(at, block);
+    let owners = u16::from_be_bytes([state[7], state[8]]);
+    let (mut work, quiet) = begin(at, owners, block);
     let rounds = match mode {
         0 => {
             central(at, &mut work);
@@ -131,7 +133,7 @@ pub fn slot_by(
     if state[1] == 0 {
         state[2] = at.next(at.j) as u8;
     }
-    state[3..].copy_from_slice(&due.wrapping_add(1).to_be_bytes());
+    state[3..7].copy_from_slice(&due.wrapping_add(1).to_be_bytes());
     rounds * 256
 }
 
@@ -159,16 +161,18 @@ fn refusal(at: Place, due: u32, slot: u32, mode: u32, block_len: usize, out_len:
     }
 }
 
-/// Reads the block and settles what is planned; also says which hosts are not heard.
-pub fn begin(at: Place, block: &[u8]) -> (Work, u16) {
+/// Reads the block and settles what is planned; also says which hosts are not heard. Hosts ask,
+/// plan and vote among the ports of their own operator.
+pub fn begin(at: Place, owners: u16, block: &[u8]) -> (Work, u16) {
     let below = u16::MAX >> (MOST_PORTS - at.n);
     let (mut req, mut pre) = ([0; MOST_PORTS], [0; MOST_PORTS]);
     let (mut uncleared, mut enabled, mut quiet) = (below, below, 0);
     for (host, frame) in block.chunks_exact(CONFIG_LEN).enumerate() {
         if config_is_right(frame) {
-            req[host] = u16::from_be_bytes([frame[1], frame[2]]) & below;
-            pre[host] = u16::from_be_bytes([frame[3], frame[4]]) & below;
-            let ben = u16::from_be_bytes([frame[5], frame[6]]);
+            let own = own(owners, host);
+            req[host] = u16::from_be_bytes([frame[1], frame[2]]) & below & own;
+            pre[host] = u16::from_be_bytes([frame[3], frame[4]]) & below & own;
+            let ben = u16::from_be_bytes([frame[5], frame[6]]) | !own;
             enabled = enabled & ben | uncleared;
             uncleared &= ben;
         } else {
@@ -190,6 +194,15 @@ pub fn begin(at: Place, block: &[u8]) -> (Work, u16) {
         };
     }
     (Work { live: req, held }, quiet)
+}
+
+/// The ports of the host's operator.
+pub fn own(owners: u16, host: usize) -> u16 {
+    if owners >> host & 1 == 1 {
+        owners
+    } else {
+        !owners
+    }
 }
 
 /// Each target that is planned, with the first to claim it; and the set of these targets.

@@ -52,13 +52,16 @@ fn set(table: &[u8], host: usize) -> u16 {
 
 /// The sets asked of a block of the right length, as the C form writes them.
 #[inline(never)]
-pub fn asked(n: usize, block: &[u8], table: &mut [u8]) {
-    let (mut req, mut enabled) = ([0; PORTS], u16::MAX >> (PORTS - n));
-    let below = enabled;
+pub fn asked(n: usize, owners: u16, block: &[u8], table: &mut [u8]) {
+    let below = u16::MAX >> (PORTS - n);
+    let (mut req, mut uncleared, mut enabled) = ([0; PORTS], below, below);
     for (host, frame) in block.chunks_exact(11).enumerate() {
         if plain::config_is_right(frame) {
-            req[host] = u16::from_be_bytes([frame[1], frame[2]]) & below;
-            enabled &= u16::from_be_bytes([frame[5], frame[6]]);
+            let own = plain::own(owners, host);
+            let ben = u16::from_be_bytes([frame[5], frame[6]]) | !own;
+            req[host] = u16::from_be_bytes([frame[1], frame[2]]) & below & own;
+            enabled = enabled & ben | uncleared;
+            uncleared &= ben;
         }
     }
     for (host, bytes) in table.chunks_exact_mut(2).enumerate() {

@@ -162,7 +162,7 @@ fn rust_replay(central: impl Fn(Place, &mut Work), n: u32, body: &[u8], tables: 
     };
     let blocks = fields[3..].chunks_exact(11 * at.n);
     for (block, table) in blocks.zip(tables.chunks_exact_mut(TABLE_LEN)) {
-        let (mut work, _) = plain::begin(at, block);
+        let (mut work, _) = plain::begin(at, 0, block);
         central(at, &mut work);
         plain::put_table(&work.held, table);
         at.i = at.next(at.i);

@@ -82,7 +82,9 @@ fn depth(stack: &mut Stack, job: &mut Job) -> usize {
     let mut deepest = 0;
     for colour in COLOURS {
         stack.0.fill(colour);
-        job.state = State::fresh(usize::from(job.state[0]), job.slot).bytes();
+        let fresh = State::fresh(usize::from(job.state[0]), job.slot).bytes();
+        let len = job.state.len();
+        job.state.copy_from_slice(&fresh[..len]);
         run_on(stack, job);
         let untouched = stack.0.iter().take_while(|&&byte| byte == colour).count();
         assert!(untouched > 0, "the painted stack is too small");
@@ -92,14 +94,14 @@ fn depth(stack: &mut Stack, job: &mut Job) -> usize {
 }
 
 /// The most bytes that a slot of the trace takes below its caller's frame, its arguments and
-/// its return address.
-pub fn used(call: SlotCall, trace: &Trace) -> usize {
+/// its return address. So many bytes of the state are lent.
+pub fn used(call: SlotCall, state_len: usize, trace: &Trace) -> usize {
     let mut stack = Box::new(Stack([0; STACK]));
     let mut most = 0;
     for block in &trace.blocks {
         let mut job = Job {
             call: idle,
-            state: State::fresh(trace.ports, 0).bytes(),
+            state: State::fresh(trace.ports, 0).bytes()[..state_len].to_vec(),
             slot: 0,
             mode: trace.mode,
             block: block.clone(),

@@ -62,7 +62,7 @@ static int same(const struct lent *a, const struct lent *b)
 static void constants_are_the_documents(void)
 {
     CHECK(BELLACUSH_MOST_PORTS == 16);
-    CHECK(BELLACUSH_STATE_LEN == 7 && BELLACUSH_TABLE_LEN == 32);
+    CHECK(BELLACUSH_STATE_LEN == 9 && BELLACUSH_TABLE_LEN == 32);
     CHECK(BELLACUSH_CONFIG_LEN == 11 && BELLACUSH_CONFIG_PART_LEN == 8);
     CHECK(BELLACUSH_GRANT3_LEN == 7 && BELLACUSH_GRANT3_PART_LEN == 4);
     CHECK(BELLACUSH_GRANT_LEN == 5 && BELLACUSH_GRANT_PART_LEN == 2);
@@ -74,6 +74,7 @@ static void constants_are_the_documents(void)
     CHECK(BELLACUSH_BAD_TYPE == 9 && BELLACUSH_BAD_CHECK == 10);
     CHECK(BELLACUSH_BAD_GRANT_FIELD == 11);
     CHECK(BELLACUSH_BAD_LEDGER == 13 && BELLACUSH_BAD_TRACE == 14);
+    CHECK(BELLACUSH_BAD_OPERATOR == 15);
     CHECK(BELLACUSH_LEDGER_LEN == 1 + 4 * 256 + 16 && BELLACUSH_FIGURES_LEN == 5);
     CHECK(BELLACUSH_ASKED == 0 && BELLACUSH_CONNECTED == 1 && BELLACUSH_FRESH == 2);
     CHECK(BELLACUSH_WITHDRAWN == 3 && BELLACUSH_OPEN == 4);
@@ -89,6 +90,54 @@ static void measures_of_a_trace_are_the_documents(void)
     CHECK(BELLACUSH_PORTS == 0 && BELLACUSH_BODIES == 1);
     CHECK(BELLACUSH_FIRST == 0 && BELLACUSH_SLOTS == 1);
     CHECK(BELLACUSH_OFFSET == 2 && BELLACUSH_LENGTH == 3);
+}
+
+/* Ports 1 and 2 of three are operator 1's; what stands at or above n is ignored. */
+static void fresh_states(void)
+{
+    static const uint8_t wanted[9] = {3, 0, 0, 1, 2, 3, 4, 0, 6};
+    uint8_t operators[17] = {0, 1, 1, 1, 2, 255}, state[10], kept[10];
+
+    memset(state, 0xB7, sizeof state);
+    memcpy(kept, state, sizeof kept);
+    CHECK(bellacush_fresh(3, 5, operators, 15, state, 9) == BELLACUSH_BAD_LEN);
+    CHECK(bellacush_fresh(3, 5, operators, 17, state, 9) == BELLACUSH_BAD_LEN);
+    CHECK(bellacush_fresh(3, 5, operators, 16, state, 8) == BELLACUSH_BAD_LEN);
+    CHECK(bellacush_fresh(0, 5, operators, 16, state, 10) == BELLACUSH_BAD_LEN);
+    CHECK(bellacush_fresh(0, 5, NULL, 0, NULL, 0) == BELLACUSH_BAD_LEN);
+    CHECK(bellacush_fresh(0, 5, operators, 16, state, 9) == BELLACUSH_BAD_PORTS);
+    CHECK(bellacush_fresh(17, 5, operators, 16, state, 9) == BELLACUSH_BAD_PORTS);
+    CHECK(bellacush_fresh(4294967295u, 5, operators, 16, state, 9) == BELLACUSH_BAD_PORTS);
+    CHECK(bellacush_fresh(5, 5, operators, 16, state, 9) == BELLACUSH_BAD_OPERATOR);
+    CHECK(bellacush_fresh(16, 5, operators, 16, state, 9) == BELLACUSH_BAD_OPERATOR);
+    CHECK(memcmp(state, kept, sizeof state) == 0);
+    CHECK(bellacush_fresh(3, 0x01020304, operators, 16, state, 9) == BELLACUSH_DONE);
+    CHECK(memcmp(state, wanted, sizeof wanted) == 0 && state[9] == 0xB7);
+}
+
+/* Ports 2 and 3 of four are operator 1's. Hosts ask for each other's ports, which is ignored, and
+   both of operator 1's vote against both of operator 0's, which counts for nothing. */
+static void operators_stay_apart(void)
+{
+    static const uint16_t req[4] = {1, 14, 13, 12};
+    static const uint8_t table[8] = {0, 1, 0, 2, 0, 4, 0, 8};
+    struct lent l = asking(4, req), alone;
+
+    l.state[7] = 0xA0; /* at or above n */
+    l.state[8] = 0x0C;
+    CHECK(bellacush_write_config(13, 2, 12, 0, l.block + 22, 11) == BELLACUSH_DONE);
+    CHECK(bellacush_write_config(12, 0, 12, 0, l.block + 33, 11) == BELLACUSH_DONE);
+    alone = l;
+    memset(alone.block + 22, 0, 22);
+    CHECK(slot(&l, 5, 4) == 256 + BELLACUSH_DONE);
+    CHECK(memcmp(l.table, table, sizeof table) == 0);
+    CHECK(l.state[1] == 1 && l.state[6] == 6 && l.state[7] == 0xA0 && l.state[8] == 0x0C);
+    /* with operator 1 silent operator 0 gets the same, byte for byte */
+    CHECK(slot(&alone, 5, 4) == 256 + BELLACUSH_DONE);
+    CHECK(memcmp(alone.state, l.state, sizeof l.state) == 0);
+    CHECK(memcmp(alone.out, l.out, 14) == 0 && memcmp(alone.table, l.table, 4) == 0);
+    CHECK(memcmp(alone.out + 28, l.out + 28, sizeof l.out - 28) == 0);
+    CHECK(alone.table[5] == 0 && alone.table[7] == 0);
 }
 
 /* Case B of document 01, and the frames that come of it. */
@@ -154,11 +203,11 @@ static void lengths_are_tested(void)
 
     CHECK(bellacush_slot(l.state, 8, 5, 0, l.block, 22, 0, l.out, 14, l.table, 32) ==
           BELLACUSH_BAD_LEN);
-    CHECK(bellacush_slot(l.state, 7, 5, 0, l.block, 22, 0, l.out, 14, l.table, 33) ==
+    CHECK(bellacush_slot(l.state, 9, 5, 0, l.block, 22, 0, l.out, 14, l.table, 33) ==
           BELLACUSH_BAD_LEN);
-    CHECK(bellacush_slot(l.state, 7, 5, 0, l.block, 21, 0, l.out, 14, l.table, 32) ==
+    CHECK(bellacush_slot(l.state, 9, 5, 0, l.block, 21, 0, l.out, 14, l.table, 32) ==
           BELLACUSH_BAD_BLOCK_LEN);
-    CHECK(bellacush_slot(l.state, 7, 5, 0, l.block, 22, 0, l.out, 13, l.table, 32) ==
+    CHECK(bellacush_slot(l.state, 9, 5, 0, l.block, 22, 0, l.out, 13, l.table, 32) ==
           BELLACUSH_OUT_TOO_SHORT);
     CHECK(bellacush_slot(NULL, 0, 5, 0, NULL, 0, 0, NULL, 0, NULL, 0) == BELLACUSH_BAD_LEN);
     CHECK(bellacush_write_config(0, 0, 0, 0, NULL, 0) == BELLACUSH_OUT_TOO_SHORT);
@@ -170,7 +219,7 @@ static void lengths_are_tested(void)
     CHECK(slot(&l, 5, 0) == BELLACUSH_BAD_OFFSET);
     CHECK(same(&l, &before));
     l.state[0] = 17;
-    CHECK(bellacush_slot(l.state, 7, 5, 0, l.block, 176, 0, l.out, 112, l.table, 32) ==
+    CHECK(bellacush_slot(l.state, 9, 5, 0, l.block, 176, 0, l.out, 112, l.table, 32) ==
           BELLACUSH_BAD_PORTS);
 }
 
@@ -180,7 +229,7 @@ static void link_and_quiet_hosts_are_told(void)
     struct lent l = asking(2, req);
 
     memset(l.block + BELLACUSH_CONFIG_LEN, 0, BELLACUSH_CONFIG_LEN);
-    CHECK(bellacush_slot(l.state, 7, 5, 0, l.block, 22, 0xFFFE, l.out, 112, l.table, 32) ==
+    CHECK(bellacush_slot(l.state, 9, 5, 0, l.block, 22, 0xFFFE, l.out, 112, l.table, 32) ==
           BELLACUSH_DONE);
     CHECK(l.out[1] == 0x00 && l.out[2] == BELLACUSH_GNT_VAL);
     CHECK(l.out[8] == 1 && l.out[9] == (BELLACUSH_LINK_ERR | BELLACUSH_CRC_ERR));
@@ -256,25 +305,31 @@ static void asked_sets_of_a_block(void)
 {
     static const uint16_t req[3] = {0xFFFF, 5, 6};
     static const uint8_t wanted[6] = {0, 7, 0, 5, 0, 0};
+    static const uint8_t no_ports[9] = {0}, many_ports[9] = {17};
     struct lent l = asking(3, req), before;
 
     /* hosts 1 and 2 vote against host 2; bits at or above n are nothing */
     CHECK(bellacush_write_config(5, 0, 0xFFFB, 0, l.block + 11, 11) == BELLACUSH_DONE);
     CHECK(bellacush_write_config(6, 0, 0xFFFB, 0, l.block + 22, 11) == BELLACUSH_DONE);
     before = l;
-    CHECK(bellacush_asked(3, l.block, 33, l.table, 31) == BELLACUSH_BAD_LEN);
-    CHECK(bellacush_asked(0, l.block, 0, l.table, 33) == BELLACUSH_BAD_LEN);
-    CHECK(bellacush_asked(0, l.block, 0, l.table, 32) == BELLACUSH_BAD_PORTS);
-    CHECK(bellacush_asked(17, l.block, 176, l.table, 32) == BELLACUSH_BAD_PORTS);
-    CHECK(bellacush_asked(3, l.block, 32, l.table, 32) == BELLACUSH_BAD_BLOCK_LEN);
-    CHECK(bellacush_asked(3, NULL, 0, NULL, 0) == BELLACUSH_BAD_LEN);
+    CHECK(bellacush_asked(l.state, 9, l.block, 33, l.table, 31) == BELLACUSH_BAD_LEN);
+    CHECK(bellacush_asked(l.state, 8, l.block, 33, l.table, 32) == BELLACUSH_BAD_LEN);
+    CHECK(bellacush_asked(no_ports, 9, l.block, 0, l.table, 33) == BELLACUSH_BAD_LEN);
+    CHECK(bellacush_asked(no_ports, 9, l.block, 0, l.table, 32) == BELLACUSH_BAD_PORTS);
+    CHECK(bellacush_asked(many_ports, 9, l.block, 176, l.table, 32) == BELLACUSH_BAD_PORTS);
+    CHECK(bellacush_asked(l.state, 9, l.block, 32, l.table, 32) == BELLACUSH_BAD_BLOCK_LEN);
+    CHECK(bellacush_asked(NULL, 0, NULL, 0, NULL, 0) == BELLACUSH_BAD_LEN);
     CHECK(same(&l, &before));
-    CHECK(bellacush_asked(3, l.block, 33, l.table, 32) == BELLACUSH_DONE);
+    CHECK(bellacush_asked(l.state, 9, l.block, 33, l.table, 32) == BELLACUSH_DONE);
     CHECK(memcmp(l.table, wanted, sizeof wanted) == 0);
     CHECK(l.table[6] == 0 && l.table[31] == 0 && l.table[32] == 0xB7);
     memset(l.block, 0, 11);
-    CHECK(bellacush_asked(3, l.block, 33, l.table, 32) == BELLACUSH_DONE);
+    CHECK(bellacush_asked(l.state, 9, l.block, 33, l.table, 32) == BELLACUSH_DONE);
     CHECK(l.table[0] == 0 && l.table[1] == 0 && l.table[3] == 5 && l.table[5] == 0);
+    /* port 2 is operator 1's: hosts 0 and 1 do not ask for it, and one vote left does not disable it */
+    l.state[8] = 4;
+    CHECK(bellacush_asked(l.state, 9, l.block, 33, l.table, 32) == BELLACUSH_DONE);
+    CHECK(l.table[0] == 0 && l.table[1] == 0 && l.table[3] == 1 && l.table[5] == 4);
 }
 
 /* The figures of a pair are these. */
@@ -363,7 +418,7 @@ static void a_ledger_beside_a_slot_loop(void)
     memset(ledger, 0, sizeof ledger);
     for (number = 5; number < 9; number++) {
         CHECK(slot(&l, number, BELLACUSH_CENTRAL) == BELLACUSH_DONE);
-        CHECK(bellacush_asked(2, l.block, 22, asked, 32) == BELLACUSH_DONE);
+        CHECK(bellacush_asked(l.state, 9, l.block, 22, asked, 32) == BELLACUSH_DONE);
         CHECK(bellacush_feed(ledger, 1041, 2, asked, 32, l.table, 32) == BELLACUSH_DONE);
         CHECK(slot(&l, number, BELLACUSH_CENTRAL) == BELLACUSH_SLOT_STALE);
     }
@@ -386,7 +441,7 @@ struct recorded {
 static struct recorded record(void)
 {
     static const uint16_t req[3][2] = {{3, 3}, {1, 1}, {2, 3}};
-    uint8_t state[BELLACUSH_STATE_LEN] = {2, 0, 0, 255, 255, 255, 255};
+    uint8_t state[BELLACUSH_STATE_LEN] = {2, 0, 0, 255, 255, 255, 255, 0, 0};
     struct recorded r;
     uint32_t k;
 
@@ -557,6 +612,8 @@ int main(void)
 {
     constants_are_the_documents();
     measures_of_a_trace_are_the_documents();
+    fresh_states();
+    operators_stay_apart();
     central_slot_is_served();
     distributed_slot_is_served();
     diagonal_first_slot_is_served();

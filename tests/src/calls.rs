@@ -18,6 +18,14 @@ pub type SlotCall = unsafe extern "C" fn(
 ) -> u32;
 
 extern "C" {
+    fn bellacush_fresh(
+        n: u32,
+        due: u32,
+        operators: *const c_uchar,
+        operators_len: usize,
+        state: *mut c_uchar,
+        state_len: usize,
+    ) -> u32;
     fn bellacush_slot(
         state: *mut c_uchar,
         state_len: usize,
@@ -67,7 +75,8 @@ extern "C" {
         out_len: usize,
     ) -> u32;
     fn bellacush_asked(
-        n: u32,
+        state: *const c_uchar,
+        state_len: usize,
         block: *const c_uchar,
         block_len: usize,
         table: *mut c_uchar,
@@ -156,6 +165,19 @@ pub const SLOT: SlotCall = bellacush_slot;
 // Each call is sound for any lengths, bytes and words: a slice is valid for its length, and two
 // slices lent at once do not overlap where one may be written.
 
+pub fn fresh(n: u32, due: u32, operators: &[u8], state: &mut [u8]) -> u32 {
+    unsafe {
+        bellacush_fresh(
+            n,
+            due,
+            operators.as_ptr(),
+            operators.len(),
+            state.as_mut_ptr(),
+            state.len(),
+        )
+    }
+}
+
 pub fn slot(
     state: &mut [u8],
     slot: u32,
@@ -234,10 +256,11 @@ pub fn write_grant3(
     }
 }
 
-pub fn asked(n: u32, block: &[u8], table: &mut [u8]) -> u32 {
+pub fn asked(state: &[u8], block: &[u8], table: &mut [u8]) -> u32 {
     unsafe {
         bellacush_asked(
-            n,
+            state.as_ptr(),
+            state.len(),
             block.as_ptr(),
             block.len(),
             table.as_mut_ptr(),

@@ -44,6 +44,7 @@ fn served(call: &Slot) -> After {
         ports: hosts.len(),
         first_initiator: usize::from(state.initiator),
         first_target: usize::from(state.target),
+        owners: state.owners,
     };
     let made = schedule(at, Mode::of(call.mode), &hosts);
     let mut after = call.kept(made.rounds * 256);
@@ -100,16 +101,37 @@ fn told(host: usize, made: &Schedule, link: u16, heard: bool) -> Held {
 }
 
 /// The number of the call for the sets asked, and the table as it leaves it.
-pub fn asked(n: u32, block: &[u8], kept: &[u8]) -> (u32, Vec<u8>) {
+pub fn asked(state: &[u8], block: &[u8], kept: &[u8]) -> (u32, Vec<u8>) {
+    if state.len() != STATE_LEN || kept.len() != TABLE_LEN {
+        return (8, kept.to_vec());
+    }
+    let state = State::read(state);
+    let ports = usize::from(state.ports);
     let tests = [
-        (8, kept.len() != TABLE_LEN),
-        (1, !(1..=MOST_PORTS as u32).contains(&n)),
-        (6, block.len() as u64 != CONFIG_LEN as u64 * u64::from(n)),
+        (1, !(1..=MOST_PORTS).contains(&ports)),
+        (6, block.len() != CONFIG_LEN * ports),
     ];
     match tests.iter().find(|test| test.1) {
         Some(&(number, _)) => (number, kept.to_vec()),
-        None => (0, table(&scheduler::asked(&hosts(block)))),
+        None => (0, table(&scheduler::asked(state.owners, &hosts(block)))),
     }
+}
+
+/// The number of the call that makes a fresh state, and the state as it leaves it.
+pub fn fresh(n: u32, due: u32, operators: &[u8], kept: &[u8]) -> (u32, Vec<u8>) {
+    if operators.len() != MOST_PORTS || kept.len() != STATE_LEN {
+        return (8, kept.to_vec());
+    }
+    if !(1..=MOST_PORTS as u32).contains(&n) {
+        return (1, kept.to_vec());
+    }
+    let given = &operators[..n as usize];
+    if given.iter().any(|&operator| operator > 1) {
+        return (15, kept.to_vec());
+    }
+    let owners = (0..given.len()).filter(|&port| given[port] == 1);
+    let owners = owners.map(|port| 1 << port).sum();
+    (0, State::fresh(n as usize, due).owned(owners).bytes())
 }
 
 /// A reader's number, and the part as it leaves it.

@@ -30,12 +30,14 @@ impl Mode {
     }
 }
 
-/// Ports and offsets: `first_initiator` is I and `first_target` is J.
+/// Ports and offsets: `first_initiator` is I and `first_target` is J. `owners` are the ports of
+/// operator 1.
 #[derive(Clone, Copy, Debug, PartialEq)]
 pub struct Position {
     pub ports: usize,
     pub first_initiator: usize,
     pub first_target: usize,
+    pub owners: u16,
 }
 
 #[derive(Clone, Copy, Debug, PartialEq)]
@@ -52,8 +54,8 @@ pub fn schedule(at: Position, mode: Mode, hosts: &[Option<Config>]) -> Schedule 
         live: [[false; MOST_PORTS]; MOST_PORTS],
         held: [[false; MOST_PORTS]; MOST_PORTS],
     };
-    slot.keep_planned(&said(hosts, |config| config.pre));
-    slot.raise_requests(&asked(hosts));
+    slot.keep_planned(&said(at.owners, hosts, |config| config.pre));
+    slot.raise_requests(&asked(at.owners, hosts));
     let rounds = match mode {
         Mode::Central => {
             slot.match_central();
@@ -73,30 +75,45 @@ pub fn schedule(at: Position, mode: Mode, hosts: &[Option<Config>]) -> Schedule 
 }
 
 /// What is asked in a slot, planned or not.
-pub fn asked(hosts: &[Option<Config>]) -> Matrix {
-    said(hosts, |config| config.req)
+pub fn asked(owners: u16, hosts: &[Option<Config>]) -> Matrix {
+    said(owners, hosts, |config| config.req)
 }
 
 fn bit(word: u16, at: usize) -> bool {
     word & (1 << at) != 0
 }
 
-/// Who is enabled: fewer than two of the heard hosts vote against it.
-fn enabled(hosts: &[Option<Config>]) -> Vec<bool> {
-    let heard = || hosts.iter().flatten();
+/// Both ports are of one operator.
+fn allied(owners: u16, a: usize, b: usize) -> bool {
+    bit(owners, a) == bit(owners, b)
+}
+
+/// Who is enabled: fewer than two of the heard hosts of its operator vote against it.
+fn enabled(owners: u16, hosts: &[Option<Config>]) -> Vec<bool> {
+    let against = |initiator: usize| {
+        hosts
+            .iter()
+            .enumerate()
+            .filter(|&(voter, _)| allied(owners, voter, initiator))
+            .filter_map(|(_, heard)| heard.as_ref())
+            .filter(|said| !bit(said.ben, initiator))
+            .count()
+    };
     (0..hosts.len())
-        .map(|initiator| heard().filter(|voter| !bit(voter.ben, initiator)).count() < 2)
+        .map(|initiator| against(initiator) < 2)
         .collect()
 }
 
-/// A field of the heard and enabled hosts as a matrix, without targets at or above n.
-fn said(hosts: &[Option<Config>], field: fn(&Config) -> u16) -> Matrix {
-    let enabled = enabled(hosts);
+/// A field of the heard and enabled hosts as a matrix, without targets at or above n and those of
+/// the other operator.
+fn said(owners: u16, hosts: &[Option<Config>], field: fn(&Config) -> u16) -> Matrix {
+    let enabled = enabled(owners, hosts);
     let mut matrix = [[false; MOST_PORTS]; MOST_PORTS];
     for (initiator, host) in hosts.iter().enumerate() {
         let Some(config) = host else { continue };
         for (target, set) in matrix[initiator][..hosts.len()].iter_mut().enumerate() {
-            *set = enabled[initiator] && bit(field(config), target);
+            let own = allied(owners, initiator, target);
+            *set = enabled[initiator] && own && bit(field(config), target);
         }
     }
     matrix

@@ -5,7 +5,7 @@ use crate::frames::Config;
 use crate::lent::Lent;
 use crate::promises;
 
-pub const STATE_LEN: usize = 7;
+pub const STATE_LEN: usize = 9;
 pub const TABLE_LEN: usize = 32;
 pub const CENTRAL: u32 = 0;
 pub const DIAGONAL: u32 = 17;
@@ -16,6 +16,8 @@ pub struct State {
     pub initiator: u8,
     pub target: u8,
     pub due: u32,
+    /// The ports of operator 1.
+    pub owners: u16,
 }
 
 impl State {
@@ -29,22 +31,30 @@ impl State {
             initiator: initiator as u8,
             target: target as u8,
             due,
+            owners: 0,
         }
+    }
+
+    /// With these ports given to operator 1.
+    pub fn owned(self, owners: u16) -> State {
+        State { owners, ..self }
     }
 
     pub fn bytes(self) -> Vec<u8> {
         let mut bytes = vec![self.ports, self.initiator, self.target];
         bytes.extend(self.due.to_be_bytes());
+        bytes.extend(self.owners.to_be_bytes());
         bytes
     }
 
-    /// Of seven bytes.
+    /// Of nine bytes.
     pub fn read(bytes: &[u8]) -> State {
         State {
             ports: bytes[0],
             initiator: bytes[1],
             target: bytes[2],
             due: u32::from_be_bytes([bytes[3], bytes[4], bytes[5], bytes[6]]),
+            owners: u16::from_be_bytes([bytes[7], bytes[8]]),
         }
     }
 }

@@ -108,6 +108,8 @@ impl Body {
                     ports,
                     first_initiator: turn % ports,
                     first_target: turn / ports % ports,
+                    // a trace has no owners
+                    owners: 0,
                 };
                 table(&schedule(at, mode, &hosts(block)).held)
             })

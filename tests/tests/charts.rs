@@ -7,24 +7,32 @@ use bellacush_tests::ledger::{Feed, History, FIGURES_LEN, LEDGER_LEN};
 use bellacush_tests::lent::Lent;
 use bellacush_tests::promises;
 use bellacush_tests::random::{cases, Random};
-use bellacush_tests::slots::{block, sets, Slot, State, CENTRAL, TABLE_LEN};
+use bellacush_tests::slots::{block, sets, Slot, State, CENTRAL, STATE_LEN, TABLE_LEN};
 use bellacush_tests::traffic::{spoilt, Traffic};
 
 // The sets asked
 
 /// The number and the table after it, seen to be the promised ones.
-fn asked(n: u32, block: &[u8], table: &[u8]) -> (u32, Vec<u8>) {
+fn asked(state: &[u8], block: &[u8], table: &[u8]) -> (u32, Vec<u8>) {
+    let lent_state = Lent::new(state);
     let frames = Lent::new(block);
     let mut lent = Lent::new(table);
-    let number = calls::asked(n, &frames, lent.lend());
+    let number = calls::asked(&lent_state, &frames, lent.lend());
+    assert_eq!(lent_state.back(), state, "the state was changed");
     assert_eq!(frames.back(), block, "the block was changed");
     let answer = (number, lent.back());
-    assert_eq!(answer, promises::asked(n, block, table), "{n} {block:?}");
+    let promised = promises::asked(state, block, table);
+    assert_eq!(answer, promised, "{state:?} {block:?}");
     answer
 }
 
+/// The state of a shelf of one operator.
+fn ports(n: usize) -> Vec<u8> {
+    State::fresh(n, 7).bytes()
+}
+
 fn asked_sets(hosts: &[Config]) -> Vec<u16> {
-    let (number, table) = asked(hosts.len() as u32, &block(hosts), &[0xB7; TABLE_LEN]);
+    let (number, table) = asked(&ports(hosts.len()), &block(hosts), &[0xB7; TABLE_LEN]);
     assert_eq!(number, 0);
     sets(&table)
 }
@@ -36,7 +44,11 @@ fn sets_asked_of_random_blocks() {
         for _ in 0..cases(2_000) {
             let block = Traffic::any(&mut random).block(&mut random, ports);
             let table = random.bytes(TABLE_LEN);
-            assert_eq!(asked(ports as u32, &block, &table).0, 0);
+            let (initiator, target) = (random.below(256), random.below(256));
+            let some = random.word();
+            let owners = random.pick(&[0, some, some]);
+            let state = State::at(ports, initiator, target, random.long()).owned(owners);
+            assert_eq!(asked(&state.bytes(), &block, &table).0, 0);
         }
     }
 }
@@ -78,7 +90,7 @@ fn an_unheard_host_neither_asks_nor_votes() {
         let frame = spoilt(&mut random, block[2 * CONFIG_LEN..].to_vec());
         if Config::read(&frame).is_err() {
             block[2 * CONFIG_LEN..].copy_from_slice(&frame);
-            let (_, table) = asked(3, &block, &[0xB7; TABLE_LEN]);
+            let (_, table) = asked(&ports(3), &block, &[0xB7; TABLE_LEN]);
             assert_eq!(sets(&table)[..3], [0b111, 0b111, 0]);
         }
     }
@@ -90,29 +102,32 @@ fn every_bit_of_a_frame_counts() {
     for bit in 0..8 * CONFIG_LEN {
         let mut block = block(&hosts);
         block[CONFIG_LEN + bit / 8] ^= 1 << (bit % 8);
-        let (_, table) = asked(2, &block, &[0xB7; TABLE_LEN]);
+        let (_, table) = asked(&ports(2), &block, &[0xB7; TABLE_LEN]);
         assert_eq!(sets(&table)[..2], [0b01, 0]);
     }
 }
 
 #[test]
-fn number_8_for_a_table_then_1_then_6() {
+fn number_8_for_state_and_table_then_1_then_6() {
     let block = block(&[Config::asking(0xFFFF); 16]);
-    for len in (0..=70).filter(|&len| len != TABLE_LEN) {
-        for n in [0, 3, 16, 17] {
-            assert_eq!(asked(n, &block, &vec![0xB7; len]).0, 8);
+    for n in [0, 3, 16, 17] {
+        for len in (0..=70).filter(|&len| len != TABLE_LEN) {
+            assert_eq!(asked(&ports(n), &block, &vec![0xB7; len]).0, 8);
+        }
+        for len in (0..=20).filter(|&len| len != STATE_LEN) {
+            let mut state = ports(n);
+            state.resize(len, 0);
+            assert_eq!(asked(&state, &block, &[0xB7; TABLE_LEN]).0, 8);
         }
     }
-    for n in [0, 17, 18, 255, 256, 272, 65_552, 1 << 31, u32::MAX] {
-        let len = (n as usize).saturating_mul(CONFIG_LEN);
-        for len in [0, 11, 176, len.min(400)] {
-            let frames = vec![0; len];
-            assert_eq!(asked(n, &frames, &[0xB7; TABLE_LEN]).0, 1);
+    for n in [0, 17, 18, 255] {
+        for len in [0, 11, 176, CONFIG_LEN * n] {
+            assert_eq!(asked(&ports(n), &vec![0; len], &[0xB7; TABLE_LEN]).0, 1);
         }
     }
     for n in 1..=16 {
         for len in (0..=200).filter(|&len| len != CONFIG_LEN * n) {
-            assert_eq!(asked(n as u32, &vec![1; len], &[0xB7; TABLE_LEN]).0, 6);
+            assert_eq!(asked(&ports(n), &vec![1; len], &[0xB7; TABLE_LEN]).0, 6);
         }
     }
 }
@@ -153,7 +168,7 @@ impl Card {
 
     fn feed(&mut self, block: &[u8], connected: &[u8]) {
         let n = u32::from(self.state.ports);
-        let (_, asked) = asked(n, block, &[0xB7; TABLE_LEN]);
+        let (_, asked) = asked(&self.state.bytes(), block, &[0xB7; TABLE_LEN]);
         let mut ledger = Lent::new(&self.ledger);
         assert_eq!(calls::feed(ledger.lend(), n, &asked, connected), 0);
         self.ledger = ledger.back();

@@ -2,7 +2,7 @@
 //! all that it is lent.
 
 use bellacush_tests::frames::{sealed, Config};
-use bellacush_tests::slots::{After, Slot, State, CENTRAL};
+use bellacush_tests::slots::{After, Slot, State, CENTRAL, STATE_LEN};
 
 const HALF: u32 = 1 << 31;
 
@@ -197,9 +197,9 @@ fn number_7_for_output_below_5_n() {
 }
 
 #[test]
-fn number_8_for_a_state_of_other_than_7_bytes() {
+fn number_8_for_a_state_of_other_than_9_bytes() {
     let call = call(State::fresh(3, 9));
-    for len in (0..=24).filter(|&len| len != 7) {
+    for len in (0..=24).filter(|&len| len != STATE_LEN) {
         let mut other = call.clone();
         other.state.resize(len, 0);
         expect_kept(&other, 8);

@@ -3,7 +3,7 @@
 //! chooses other slots, BELLACUSH_CASES more of them.
 
 use bellacush_tests::random::{cases, Random};
-use bellacush_tests::slots::{Slot, State};
+use bellacush_tests::slots::{Slot, State, STATE_LEN};
 use bellacush_tests::traffic::Traffic;
 
 const HALF: u32 = 1 << 31;
@@ -15,12 +15,14 @@ fn any_due(random: &mut Random) -> u32 {
 }
 
 fn any_state(random: &mut Random, ports: usize) -> State {
+    let some = random.word();
     State::at(
         ports,
         random.below(ports),
         random.below(ports),
         any_due(random),
     )
+    .owned(random.pick(&[0, some, some]))
 }
 
 /// A call that is served, of any traffic.
@@ -159,7 +161,7 @@ fn near(random: &mut Random, len: usize) -> usize {
 /// One thing about a call changed at random, often so that it is declined.
 fn disturb(random: &mut Random, call: &mut Slot) {
     match random.below(10) {
-        0 => call.state.resize(random.pick(&[0, 6, 7, 8, 14]), 3),
+        0 => call.state.resize(random.pick(&[0, 7, 8, 9, 10, 18]), 3),
         1 => call.table.resize(random.pick(&[0, 31, 32, 33, 64]), 0xB7),
         2 => call.state[0] = random.pick(&[0, 1, 2, 15, 16, 17, 18, 128, 255]),
         3 => call.state[1] = random.pick(&[0, 1, 15, 16, 17, 255]),
@@ -168,7 +170,7 @@ fn disturb(random: &mut Random, call: &mut Slot) {
         6 => call.mode = random.pick(&[0, 1, 16, 17, 18, 19, 255, 256, 272, 65536, HALF, u32::MAX]),
         7 => call.block.resize(near(random, call.block.len()), 0),
         8 => call.out.resize(near(random, call.out.len()), 0xB7),
-        _ => call.state = random.bytes(7),
+        _ => call.state = random.bytes(STATE_LEN),
     }
 }
 
@@ -179,7 +181,7 @@ fn calls_disturbed_in_several_ways_at_once() {
     for _ in 0..cases(250_000) {
         let mut call = any_served(&mut random);
         for _ in 0..random.between(1, 4) {
-            if call.state.len() == 7 {
+            if call.state.len() == STATE_LEN {
                 disturb(&mut random, &mut call);
             }
         }

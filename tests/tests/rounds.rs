@@ -24,7 +24,7 @@ fn open(call: &Slot, after: &After) -> usize {
         .chunks(CONFIG_LEN)
         .map(|frame| Config::read(frame).ok())
         .collect();
-    let asked = asked(&hosts);
+    let asked = asked(State::read(&call.state).owners, &hosts);
     let sets = after.sets();
     let held = sets.iter().fold(0, |held, set| held | set);
     let free = |initiator: usize, target: usize| sets[initiator] == 0 && held & (1 << target) == 0;

@@ -101,9 +101,13 @@ fn any_pair(random: &mut Random, ports: usize) -> Pair {
     }
 }
 
-fn any_state(random: &mut Random, ports: usize) -> State {
+/// Two operators may share the shelf; the pair is of one of them.
+fn any_state(random: &mut Random, ports: usize, pair: Pair) -> State {
     let place = any_pair(random, ports);
-    State::at(ports, place.initiator, place.target, random.long())
+    let some = random.word();
+    let owners = random.pick(&[0, some]) & !(1 << pair.target);
+    let same = (owners >> pair.initiator & 1) << pair.target;
+    State::at(ports, place.initiator, place.target, random.long()).owned(owners | same)
 }
 
 #[test]
@@ -112,7 +116,7 @@ fn of_a_pair_among_random_hosts() {
     for ports in 1..=16 {
         for _ in 0..cases(4) {
             let pair = any_pair(&mut random, ports);
-            let state = any_state(&mut random, ports);
+            let state = any_state(&mut random, ports, pair);
             let slots = 3 * ports * ports + random.below(30);
             let hits = connected(&mut random, state, slots, pair, None, |random| {
                 random_hosts(random, ports, pair)
@@ -132,7 +136,7 @@ fn of_every_pair_that_all_others_crowd() {
                 target: place / ports,
             };
             for mode in [0, 1, 4, 16, 17] {
-                let state = any_state(&mut random, ports);
+                let state = any_state(&mut random, ports, pair);
                 let slots = 3 * ports * ports;
                 let hits = connected(&mut random, state, slots, pair, Some(mode), |_| {
                     crowded_hosts(ports, pair)
@@ -148,7 +152,7 @@ fn of_a_crowded_pair_of_sixteen_ports() {
     let mut random = Random::of_test("share_in_a_crowd_of_sixteen");
     for mode in [0, 1, 4, 17] {
         let pair = any_pair(&mut random, 16);
-        let state = any_state(&mut random, 16);
+        let state = any_state(&mut random, 16, pair);
         let hits = connected(&mut random, state, 520, pair, Some(mode), |_| {
             crowded_hosts(16, pair)
         });
@@ -173,7 +177,7 @@ fn of_a_pair_diagonal_first_among_random_hosts() {
     for ports in 1..=16 {
         for _ in 0..cases(4) {
             let pair = any_pair(&mut random, ports);
-            let state = any_state(&mut random, ports);
+            let state = any_state(&mut random, ports, pair);
             let slots = 2 * ports * ports + 2 * ports;
             let hits = connected(&mut random, state, slots, pair, Some(17), |random| {
                 random_hosts(random, ports, pair)
@@ -193,7 +197,7 @@ fn of_every_pair_diagonal_first_that_all_others_crowd() {
                 initiator: place % ports,
                 target: place / ports,
             };
-            let state = any_state(&mut random, ports);
+            let state = any_state(&mut random, ports, pair).owned(0);
             let slots = 2 * ports * ports + ports;
             let hits = connected(&mut random, state, slots, pair, Some(17), |_| {
                 crowded_hosts(ports, pair)

@@ -1,3 +1,4 @@
+pub mod Fresh
 pub mod Trips
 pub mod Slots
 pub mod Unique

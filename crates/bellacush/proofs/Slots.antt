@@ -5,15 +5,15 @@ use mathlib.Core.List.{List, _++_}
 use Prim.Native.Nat.{ℕ}
 use lib.ListN.{length, take, drop}
 use borrow.Author.Tests.{eq-eqb, ne-eqb}
-use Rattle.laws.specs.Bytes.{bigEndian}
 use Rattle.ports.specs.Modes.{modeOf}
 use Rattle.ports.specs.declared.state.State.{State}
 use Rattle.ports.specs.declared.state.Mode.{Mode}
 use Rattle.ports.specs.declared.answer.Stepped.{Stepped}
+use Rattle.table_bytes.specs.State.{stateLen, stateIn, stateBytes}
 use Rattle.table_bytes.specs.Table.{tableLen, tablePut}
-use Rattle.table_bytes.proofs.Fits.{table-filled}
+use Rattle.table_bytes.proofs.Fits.{table-filled, state-read, length-state}
 use Rattle.shelf.specs.Step.{stepped, output}
-use Rattle.bellacush.specs.Slot.{stateLen, stateOf, stateBytes, wordOf, stateAfter, tableAfter, fits, run, slotWord, slotState, slotTable, slotOutput}
+use Rattle.bellacush.specs.Slot.{wordOf, stateAfter, tableAfter, fits, run, slotWord, slotState, slotTable, slotOutput}
 use Rattle.lent.proofs.Fills.{copied}
 
 -- what is lent, after a slot that was declined and after one that was served
@@ -21,15 +21,11 @@ pub kept : (r : Stepped) (state table : List ℕ) → (r .answer .number ≡ 0 �
 unfolding stateAfter tableAfter
 kept r state table some = rw (ne-eqb _ 0 some) (refl, refl)
 
-pub length-state : (st : State) → length (stateBytes st) ≡ stateLen
-unfolding stateBytes bigEndian
-length-state st = refl
-
 pub stored : (m : ℕ) (r : Stepped) (state table bytes last lastly : List ℕ) → r .answer .number ≡ 0 → length state ≡ stateLen → length table ≡ tableLen m → length (r .answer .sets) ≡ m → bytes ≡ stateBytes (r .state)
     → last ≡ take (length bytes) bytes ++ drop (length bytes) state → lastly ≡ tablePut m (r .answer .sets) table → (last ≡ stateAfter r state) × (lastly ≡ tableAfter r table)
 unfolding stateAfter tableAfter
-stored m r state table bytes last lastly none seven long rows are wrote put =
-    rw (eq-eqb _ 0 none) (copied bytes state last (seven ∙ sym (ap length are ∙ length-state (r .state))) wrote ∙ are, put ∙ table-filled m table long (r .answer .sets) rows)
+stored m r state table bytes last lastly none nine long rows are wrote put =
+    rw (eq-eqb _ 0 none) (copied bytes state last (nine ∙ sym (ap length are ∙ length-state (r .state))) wrote ∙ are, put ∙ table-filled m table long (r .answer .sets) rows)
 
 module _ (m : ℕ) (state : List ℕ) (slot mode : ℕ) (block : List ℕ) (link : ℕ) (out table : List ℕ) where
   -- the promise of a call that returns a word and leaves these bytes
@@ -48,8 +44,8 @@ module _ (m : ℕ) (state : List ℕ) (slot mode : ℕ) (block : List ℕ) (link
   unfolding fits
   wrong-table same other = unfit (rw (eq-eqb _ _ same, ne-eqb _ _ other))
 
-  pub ran : (st : State) (md : Mode) (r : Stepped) (o s t : List ℕ) (word : ℕ) → length state ≡ stateLen → length table ≡ tableLen m → st ≡ stateOf state → md ≡ modeOf m mode
+  pub ran : (st : State) (md : Mode) (r : Stepped) (o s t : List ℕ) (word : ℕ) → length state ≡ stateLen → length table ≡ tableLen m → st ≡ stateIn state → md ≡ modeOf m mode
       → (r ≡ stepped m st slot md block out) × (o ≡ output m st slot md block link out) → (s ≡ stateAfter r state) × (t ≡ tableAfter r table) → word ≡ wordOf (r .answer)
       → Left word s t o
   unfolding slotWord slotState slotTable slotOutput fits run
-  ran st md r o s t word seven long is-st is-md (is-r, is-o) (is-s, is-t) is-w = rw (eq-eqb _ _ seven, eq-eqb _ _ long, ← is-st, ← is-md, ← is-r) (is-w, is-s, is-t, is-o)
+  ran st md r o s t word nine long is-st is-md (is-r, is-o) (is-s, is-t) is-w = rw (eq-eqb _ _ nine, eq-eqb _ _ long, ← is-st ∙ state-read state nine, ← is-md, ← is-r) (is-w, is-s, is-t, is-o)

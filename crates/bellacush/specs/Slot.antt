@@ -1,26 +1,16 @@
--- The C form of the slot call: the state is seven bytes, the mode a number, the sets two bytes each.
+-- The C form of the slot call: the state is nine bytes, the mode a number, the sets two bytes each.
 use Prim.Native.Nat.{ℕ, _+_, _*_}
 use mathlib.Core.Bool.{Bool, _&&_, cond}
-use mathlib.Core.List.{List, _++_}
+use mathlib.Core.List.{List}
 use lib.Dec.{eqb}
-use lib.ListN.{length, getD, take, drop}
-use Rattle.laws.specs.Bytes.{bigEndian, number, row}
+use lib.ListN.{length}
+use Rattle.laws.specs.Bytes.{row}
 use Rattle.ports.specs.Modes.{modeOf}
-use Rattle.ports.specs.declared.state.State.{State}
 use Rattle.ports.specs.declared.answer.Answer.{Answer}
 use Rattle.ports.specs.declared.answer.Stepped.{Stepped}
+use Rattle.table_bytes.specs.State.{stateLen, stateOf, stateBytes}
 use Rattle.table_bytes.specs.Table.{tableLen}
 use Rattle.shelf.specs.Step.{stepped, output}
-
--- n, I and J, a byte each, and the slot due, four bytes
-unfoldable pub stateOf : List ℕ → State
-stateOf s = record { ports = getD s 0 0; initiator = record { 0 = getD s 1 0 }; target = record { 0 = getD s 2 0 }; due = number (take 4 (drop 3 s)) }
-
-unfoldable pub stateBytes : State → List ℕ
-stateBytes st = bigEndian 1 (st .ports) ++ bigEndian 1 (st .initiator .0) ++ bigEndian 1 (st .target .0) ++ bigEndian 4 (st .due)
-
-abbrev pub stateLen : ℕ
-stateLen = 7
 
 -- the number plus 256 times the rounds
 abbrev pub wordOf : Answer → ℕ
@@ -35,7 +25,7 @@ tableAfter r table = cond (eqb (r .answer .number) 0) (row 2 (r .answer .sets)) 
 
 module _ (m : ℕ) (state : List ℕ) (slot mode : ℕ) (block : List ℕ) where
   module _ (out table : List ℕ) where
-    -- the state is seven bytes, and the table two for each of m sets
+    -- the state is nine bytes, and the table two for each of m sets
     unfoldable pub fits : Bool
     fits = eqb (length state) stateLen && eqb (length table) (tableLen m)
 

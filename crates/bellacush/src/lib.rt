@@ -1,5 +1,6 @@
-// The C form: the slot call, an object of its own.
+// The C form: the slot call and the call that makes a fresh state, an object of their own.
+mod fresh_call;
 mod slot_call;
-mod state_bytes;
 
+pub use fresh_call::bellacush_fresh;
 pub use slot_call::bellacush_slot;

@@ -2,16 +2,17 @@
 ghost use mathlib.Core.Path.{_≡_};
 ghost use lib.ListN.{length};
 ghost use Rattle.frames.specs.Part.{mostPorts};
+ghost use Rattle.table_bytes.specs.State.{stateLen};
 ghost use Rattle.table_bytes.specs.Table.{tableLen};
-ghost use Rattle.bellacush.specs.Slot.{stateLen, wordOf, stateAfter, tableAfter, slotWord, slotState, slotTable, slotOutput};
-use crate::state_bytes::STATE_LEN;
-use crate::state_bytes::state_bytes;
-use crate::state_bytes::state_of;
+ghost use Rattle.bellacush.specs.Slot.{wordOf, stateAfter, tableAfter, slotWord, slotState, slotTable, slotOutput};
 use ports::Answer;
 use ports::Set;
 use ports::Stepped;
+use table_bytes::STATE_LEN;
 use table_bytes::TABLE_LEN;
 use table_bytes::put_table;
+use table_bytes::state_bytes;
+use table_bytes::state_in;
 
 fn word_of(answer: Answer) -> u32
     ensures { λ r. ⌜ r ≡ wordOf answer ⌝ }
@@ -54,7 +55,7 @@ pub extern "C" fn bellacush_slot(
         return 8;
     }
     let stepped = shelf::step(
-        state_of(state),
+        state_in(state),
         slot,
         ports::mode_of(mode),
         block,

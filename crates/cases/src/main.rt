@@ -18,6 +18,7 @@ fn show(label: u8, state: State, mode: Mode, req: u16, pre: u16) {
 fn show_voted(label: u8, state: State, req: u16, ben: u16) {
     let counted = hearing::counted(
         state.ports,
+        state.owners,
         0b11,
         rows(ben),
         rows(req),

@@ -27,9 +27,9 @@ use Rattle.charted.proofs.Calls.{declined-keeps, served-shows, all-call
 
 module _ (m i t : ℕ) where
   -- a served call whose block asks the pair feeds it as asked
-  feeds-asked : (s : Chart) (c : SlotCall) → isServed m s c ≡ true → Asks (s .state .ports) (c .block) i t → asked i t (feedOf m (s .state) c) ≡ true
+  feeds-asked : (s : Chart) (c : SlotCall) → isServed m s c ≡ true → Asks (s .state .ports) (s .state .owners) (c .block) i t → asked i t (feedOf m (s .state) c) ≡ true
   feeds-asked s c e a =
-      every (every (lt-ltb i _ (a .initiator)) (lt-ltb t _ (a .target))) (asked-exactly m (s .state .ports) (c .block) (whole m (s .state) c (eqb-true _ 0 e)) i t .1 a)
+      every (every (lt-ltb i _ (a .initiator)) (lt-ltb t _ (a .target))) (asked-exactly m (s .state .ports) (s .state .owners) (c .block) (whole m (s .state) c (eqb-true _ 0 e)) i t .1 a)
 
   -- one slot more in which the pair waits: asked once more, and neither connected nor withdrawn
   pub record OneMore (w : ℕ) (h h′ : List Feed) : Type 0 where
@@ -122,7 +122,7 @@ module _ (m i t : ℕ) where
     now = after (charted m) s calls
 
     pub one-fresh : figures m s i t .isopen ≡ 0 → InServed (charted m) (isServed m) (Waits m i t) s calls → isServed m now last ≡ true
-        → Asks (now .state .ports) (last .block) i t → asks (sets m (now .state) last) i t ≡ true → s .ledger .slots + w < mostSlots
+        → Asks (now .state .ports) (now .state .owners) (last .block) i t → asks (sets m (now .state) last) i t ≡ true → s .ledger .slots + w < mostSlots
         → OneRequest w (figures m s i t) (figures m (charted m now last) i t)
     one-fresh closed waits e a connects few =
         let begun = all-calls m earlier (started m st) (record { history = []; shows = no-feed m }) in

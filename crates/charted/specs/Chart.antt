@@ -23,7 +23,7 @@ started m st = record { state = st; ledger = empty m }
 
 -- what a slot call feeds: n, the sets asked of its block, and the sets connected of its answer
 abbrev pub feedOf : ℕ → State → SlotCall → Feed
-feedOf m st c = record { ports = st .ports; asked = setsAsked m (st .ports) (c .block) .sets; connected = sets m st c }
+feedOf m st c = record { ports = st .ports; asked = setsAsked m (st .ports) (st .owners) (c .block) .sets; connected = sets m st c }
 
 -- a slot call, and the feed after it if it is served
 abbrev pub isServed : ℕ → Chart → SlotCall → Bool
@@ -41,7 +41,7 @@ figures m s = figuresOf m (s .ledger)
 
 -- the pair (i, t) waits in a call: its block asks it, and its answer does not connect it
 pub record Waits (m i t : ℕ) (s : Chart) (c : SlotCall) : Type 0 where
-  pub asked : Asks (s .state .ports) (c .block) i t
+  pub asked : Asks (s .state .ports) (s .state .owners) (c .block) i t
   pub left-out : asks (sets m (s .state) c) i t ≡ false
 
 -- the figures before a pair's request, and after it was asked in w slots, and connected in the slot after these: one fresh request

@@ -1,3 +1,4 @@
+pub mod Asking
 pub mod Told
 pub mod Ledgers
 pub mod Unique

@@ -6,18 +6,26 @@ use lib.Dec.{eqb}
 use lib.ListN.{length}
 use Rattle.laws.specs.Bytes.{row}
 use Rattle.lent.specs.Filled.{fittedNumber, filledAfter}
+use Rattle.table_bytes.specs.State.{stateLen, stateOf}
 use Rattle.table_bytes.specs.Table.{tableLen, tableOf}
 use Rattle.shelf.specs.Asked.{setsAsked}
+use Rattle.shelf.specs.declared.asked.Asked.{Asked}
 use Rattle.ledger.specs.Lent.{lentNumber, lentFeed, lentShown}
 use Rattle.ledger.specs.declared.book.Figures.{Figures}
 
--- the sets asked of a block
-module _ (m n : ℕ) (block table : List ℕ) where
+-- the sets asked of a block, by the ports and the owners in the bytes of a state
+module _ (m : ℕ) (state block table : List ℕ) where
+  unfoldable pub askedFits : Bool
+  askedFits = eqb (length state) stateLen && eqb (length table) (tableLen m)
+
+  unfoldable pub askedOf : Asked
+  askedOf = setsAsked m (stateOf state .ports) (stateOf state .owners) block
+
   abbrev pub askedNumber : ℕ
-  askedNumber = fittedNumber (eqb (length table) (tableLen m)) (setsAsked m n block .number)
+  askedNumber = fittedNumber askedFits (askedOf .number)
 
   abbrev pub askedTable : List ℕ
-  askedTable = filledAfter askedNumber (row 2 (setsAsked m n block .sets)) table
+  askedTable = filledAfter askedNumber (row 2 (askedOf .sets)) table
 
 -- the feed, by the bytes of both tables
 module _ (m : ℕ) (words : List ℕ) (n : ℕ) (asked connected : List ℕ) where

@@ -6,18 +6,24 @@ ghost use Rattle.collector_calls.specs.Ledger.{figuresLen, figureWords, 
 use ledger::Figures;
 use ports::Initiator;
 use ports::Target;
+use table_bytes::STATE_LEN;
 use table_bytes::TABLE_LEN;
 use table_bytes::put_table;
+use table_bytes::state_in;
 use table_bytes::table_in;
 
 #[no_mangle]
-pub extern "C" fn bellacush_asked(n: u32, block: &[u8], table: &mut [u8]) -> u32
-    ensures { λ r. ⌜ (r ≡ askedNumber mostPorts n (now (block .entry)) (now (table .entry))) × (now (table .exit) ≡ askedTable mostPorts n (now (block .entry)) (now (table .entry))) ⌝ }
+pub extern "C" fn bellacush_asked(state: &[u8], block: &[u8], table: &mut [u8]) -> u32
+    ensures { λ r. ⌜ (r ≡ askedNumber mostPorts (now (state .entry)) (now (block .entry)) (now (table .entry))) × (now (table .exit) ≡ askedTable mostPorts (now (state .entry)) (now (block .entry)) (now (table .entry))) ⌝ }
 {
+    if state.len() != STATE_LEN {
+        return 8;
+    }
     if table.len() != TABLE_LEN {
         return 8;
     }
-    let asked = shelf::sets_asked(n as usize, block);
+    let read = state_in(state);
+    let asked = shelf::sets_asked(read.ports, read.owners, block);
     let number = asked.number;
     if number != 0 {
         return number as u32;

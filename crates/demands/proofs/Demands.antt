@@ -9,8 +9,8 @@ pub use Rattle.demands.proofs.Resent.{resent-stale}
 -- A call in order is served, and advances the state; a fresh state is in order, and serves first the slot that its caller named.
 pub use Rattle.demands.proofs.SlotServed.{served-in-order, served-advances}
 pub use Rattle.demands.proofs.Started.{fresh-in-order, fresh-serves, fresh-serves-only}
--- Demand 2. Nothing from nowhere: a connection is an enabled heard host's, first claimed or live. What was given is connected.
-pub use Rattle.demands.proofs.SlotConnections.{nothing-from-nowhere, absent-unconnected, given-connected}
+-- Demand 2. Nothing from nowhere: a connection is an enabled heard host's, first claimed or live, and of ports of one operator. What was given is connected.
+pub use Rattle.demands.proofs.SlotConnections.{nothing-from-nowhere, within-operators, absent-unconnected, given-connected}
 -- Who is enabled: disabled only by two different heard hosts, so that one host by itself, whatever it votes, changes nothing.
 pub use Rattle.demands.proofs.Hosts.{present-exactly, one-disables-nobody}
 pub use Rattle.demands.proofs.SlotHosts.{enabled-exactly}

@@ -32,6 +32,15 @@ module _ {S C : Type 0} {view : S → State} {Kept : S → C → Type 0} {next :
   throughout Q so st [] k v = tt
   throughout Q so st (c ∷ calls) k v = (so st c (k .0) v, throughout Q so (next st c) calls (k .1) (valid-next st c (k .0) v))
 
+  -- No call changes the owners.
+  pub owners-kept : (st : S) (c : C) → Kept st c → view (next st c) .owners ≡ view st .owners
+  unfolding advance
+  owners-kept st c k = go (served st c) refl
+    where
+      go : (b : Bool) → served st c ≡ b → view (next st c) .owners ≡ view st .owners
+      go false e = ap (λ (s : State). s .owners) (moves .declined-keeps st c k e)
+      go true e = ap (λ (s : State). s .owners) (moves .served-advances st c k e)
+
   -- the slot due is as many further as calls were served
   due-after : (calls : List C) (st : S) → InEach next Kept st calls → view st .due < 2 ^ 32
       → view (after next st calls) .due ≡ (view st .due + howMany next served st calls) % 2 ^ 32

@@ -12,6 +12,8 @@ use Rattle.laws.proofs.Tests.{both, same}
 use Rattle.laws.proofs.Tallies.{tally-few}
 use Rattle.laws.proofs.Members.{has-none, asks-row, tabled-asks}
 use Rattle.laws.proofs.Rows.{row-tabled}
+use Rattle.ports.specs.Owners.{operator, among}
+use Rattle.ports.proofs.Owners.{among-has, has-among}
 use Rattle.hearing.specs.Heard.{clears, present, counted}
 
 module _ (n heard : ℕ) (ben : List ℕ) where
@@ -35,17 +37,20 @@ module _ (n heard : ℕ) (ben : List ℕ) where
           go (yes s) = s
           go (no s) = absurd (true≢false (sym e ∙ others h h< s))
 
-  -- what counts of a field is what a present initiator sent
-  pub counted-asks : (rows : List ℕ) (i t : ℕ) → asks (counted n heard ben rows) i t ≡ true → (present n heard ben i ≡ true) × (asks rows i t ≡ true)
+-- what counts of a field is what a present initiator sent, towards its own operator's ports
+module _ (n owners heard : ℕ) (ben rows : List ℕ) (i t : ℕ) where
+  pub counted-asks : asks (counted n owners heard ben rows) i t ≡ true
+      → (present n (among owners i heard) ben i ≡ true) × (asks rows i t ≡ true) × (operator owners i ≡ operator owners t)
   unfolding counted
-  counted-asks rows i t e = sent (present n heard ben i) (tabled-asks (length rows) (λ i. cond (present n heard ben i) (getD rows i 0) 0) n i t e .1)
+  counted-asks e = sent (present n (among owners i heard) ben i) (tabled-asks (length rows) _ n i t e .1)
     where
-      sent : (b : Bool) → has (cond b (getD rows i 0) 0) t ≡ true → (b ≡ true) × (asks rows i t ≡ true)
-      sent true e = (refl, e)
+      sent : (b : Bool) → has (cond b (among owners i (getD rows i 0)) 0) t ≡ true → (b ≡ true) × (asks rows i t ≡ true) × (operator owners i ≡ operator owners t)
+      sent true e = let (a, o) = among-has owners i (getD rows i 0) t e in (refl, a, o)
       sent false e = absurd (true≢false (sym e ∙ has-none t))
 
-  pub asks-counted : (rows : List ℕ) (i t : ℕ) → i < n → present n heard ben i ≡ true → asks rows i t ≡ true → asks (counted n heard ben rows) i t ≡ true
+  pub asks-counted : i < n → present n (among owners i heard) ben i ≡ true → asks rows i t ≡ true → operator owners i ≡ operator owners t
+      → asks (counted n owners heard ben rows) i t ≡ true
   unfolding counted
-  asks-counted rows i t i< here e =
-      let row = row-tabled (length rows) (λ i. cond (present n heard ben i) (getD rows i 0) 0) n i i< (asks-row rows i t e) in
-      ap (λ s. has s t) row ∙ rw here e
+  asks-counted i< here e o =
+      let row = row-tabled (length rows) (λ i. cond (present n (among owners i heard) ben i) (among owners i (getD rows i 0)) 0) n i i< (asks-row rows i t e) in
+      ap (λ s. has s t) row ∙ rw here (has-among owners i (getD rows i 0) t o ∙ e)

@@ -17,7 +17,7 @@ use Rattle.choices.specs.Join.{join}
 use Rattle.choices.specs.declared.work.Work.{Work}
 
 module _ (s : Work) (w c : ℕ) where
-  row-joined : (i : ℕ) → getD (join s w c .live) i 0 ≡ without (getD (set (s .live) w 0) i 0) c
+  pub row-joined : (i : ℕ) → getD (join s w c .live) i 0 ≡ without (getD (set (s .live) w 0) i 0) c
   unfolding join
   row-joined i =
       let g : ℕ → ℕ = λ row. without row c in

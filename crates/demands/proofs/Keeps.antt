@@ -33,7 +33,7 @@ pub first-place : (n a : ℕ) → a < n → place n a 0 ≡ a
 first-place n a h = ap (λ x. x % n) (add-zero a) ∙ mod-eq-of-lt h
 
 -- an offer: initiator i asks for t, and t grants it
-offered : (st : State) (live grant : List ℕ) (i t : ℕ) → has (offers st live grant i) t ≡ true → (asks live i t ≡ true) × (getD grant t 0 ≡ i)
+pub offered : (st : State) (live grant : List ℕ) (i t : ℕ) → has (offers st live grant i) t ≡ true → (asks live i t ≡ true) × (getD grant t 0 ≡ i)
 unfolding offers
 offered st live grant i t e =
     let (x, y) = both (asks live i t) _ (gathered-has (λ t. asks live i t && eqb (getD grant t 0) i) (st .ports) t e .1) in

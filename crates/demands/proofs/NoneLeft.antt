@@ -78,9 +78,9 @@ module _ (i t : ℕ) where
         (subst (λ (mode : Mode). Busy (matched st mode (c .req) (c .pre) .work .held) i t) (sym mode) (matched-busy st (c .req) (c .pre) rows i< t< asked limit enough))
 
     -- Every request of an enabled heard host is connected, or its initiator holds another target, or its target another initiator.
-    pub busy-in-block : (c : SlotCall) → number m st c ≡ 0 → c .mode ≡ Distributed limit → Asks (st .ports) (c .block) i t → Busy (sets m st c) i t
+    pub busy-in-block : (c : SlotCall) → number m st c ≡ 0 → c .mode ≡ Distributed limit → Asks (st .ports) (st .owners) (c .block) i t → Busy (sets m st c) i t
     busy-in-block c done mode a =
         let block = whole m st c done in
         rw (same-sets m st c done)
         (busy-on-tables (onTables m st c) (same-number m st c done) mode (rw (request-rows m st c) (block .most-ports)) (a .initiator) (a .target)
-        (requests-count block i t .1 (a .initiator, a .enabled, a .asked)))
+        (requests-count (st .owners) block i t .1 (a .initiator, a .enabled, a .asked)))

@@ -16,6 +16,7 @@ use Rattle.ports.specs.Due.{declined}
 use Rattle.ports.specs.declared.state.State.{State}
 use Rattle.ports.specs.declared.state.Mode.{Mode}
 use Rattle.ports.specs.declared.answer.Answer.{Answer}
+use Rattle.ports.specs.Owners.{among}
 use Rattle.hearing.specs.Heard.{present, counted}
 use Rattle.lcf.specs.Slot.{slotOnTables}
 use Rattle.shelf.specs.Hosts.{fieldOf, hostsOf}
@@ -29,10 +30,10 @@ use Rattle.demands.proofs.SlotCalls.{whole}
 use Rattle.demands.proofs.SlotHosts.{Whole, said-says, clears-exactly}
 
 -- With one port nobody is disabled.
-pub one-port-enabled : (block : List ℕ) → Heard 1 block 0 → Enabled 1 block 0
-one-port-enabled block h = record { heard = h; not-by-two = λ x y x< y< p q. omega arith }
+pub one-port-enabled : (owners : ℕ) (block : List ℕ) → Heard 1 block 0 → Enabled 1 owners block 0
+one-port-enabled owners block h = record { heard = h; not-by-two = λ x y x< y< p q. omega arith }
 
-module _ {m n g : ℕ} {a b : List ℕ} (first : Whole m n a) (alone : VoteAlone n g a b) where
+module _ {m n owners g : ℕ} {a b : List ℕ} (first : Whole m n a) (alone : VoteAlone n owners g a b) where
   second : Whole m n b
   second = record { some-port = first .some-port; most-ports = first .most-ports; whole-block = sym (alone .same-length) ∙ first .whole-block }
 
@@ -52,23 +53,23 @@ module _ {m n g : ℕ} {a b : List ℕ} (first : Whole m n a) (alone : VoteAlone
   rows-same field at-g = same-steps _ _ _ n (λ h s h<. rw (said-says first h h<, said-says second h h<, in-common (λ x. field (x .fields)) at-g h h<))
 
   -- who is present is who is heard, in both
-  nobody-disabled : {c : List ℕ} (whole : Whole m n c) → ((h i : ℕ) → h < n → i < n → (h ≡ g → ⊥) → Clears n c i h → ⊥) → (i : ℕ) → i < n
-      → present n (hostsOf m n c .heard) (hostsOf m n c .ben) i ≡ has (hostsOf m n c .heard) i
-  nobody-disabled whole nothing i i< = one-disables-nobody n _ _ g i (λ h h< other. refuted _ (λ e. nothing h i h< i< other (clears-exactly whole i h h< .0 e)))
+  nobody-disabled : {c : List ℕ} (whole : Whole m n c) → ((h i : ℕ) → h < n → i < n → (h ≡ g → ⊥) → Clears n owners c i h → ⊥) → (i : ℕ) → i < n
+      → present n (among owners i (hostsOf m n c .heard)) (hostsOf m n c .ben) i ≡ has (among owners i (hostsOf m n c .heard)) i
+  nobody-disabled whole nothing i i< = one-disables-nobody n _ _ g i (λ h h< other. refuted _ (λ e. nothing h i h< i< other (clears-exactly owners whole i h h< .0 e)))
 
-  others-clear-nothing : (h i : ℕ) → h < n → i < n → (h ≡ g → ⊥) → Clears n b i h → ⊥
+  others-clear-nothing : (h i : ℕ) → h < n → i < n → (h ≡ g → ⊥) → Clears n owners b i h → ⊥
   others-clear-nothing h i h< i< other c = let same = sym (alone .others-same h h< other) in
-      alone .others-clear-nothing h i h< i< other (record { heard = ap (λ (x : Read Config). x .number) (sym same) ∙ c .heard; clear = ap (λ (x : Read Config). has (x .fields .ben) i) (sym same) ∙ c .clear })
+      alone .others-clear-nothing h i h< i< other (record { heard = ap (λ (x : Read Config). x .number) (sym same) ∙ c .heard; allied = c .allied; clear = ap (λ (x : Read Config). has (x .fields .ben) i) (sym same) ∙ c .clear })
 
-  present-same : (i : ℕ) → i < n → present n (hostsOf m n a .heard) (hostsOf m n a .ben) i ≡ present n (hostsOf m n b .heard) (hostsOf m n b .ben) i
-  present-same i i< = nobody-disabled first (alone .others-clear-nothing) i i< ∙ ap (λ s. has s i) heard-same ∙ sym (nobody-disabled second others-clear-nothing i i<)
+  present-same : (i : ℕ) → i < n → present n (among owners i (hostsOf m n a .heard)) (hostsOf m n a .ben) i ≡ present n (among owners i (hostsOf m n b .heard)) (hostsOf m n b .ben) i
+  present-same i i< = nobody-disabled first (alone .others-clear-nothing) i i< ∙ ap (λ s. has (among owners i s) i) heard-same ∙ sym (nobody-disabled second others-clear-nothing i i<)
 
-  counted-same : {rows others : List ℕ} → rows ≡ others → counted n (hostsOf m n a .heard) (hostsOf m n a .ben) rows ≡ counted n (hostsOf m n b .heard) (hostsOf m n b .ben) others
+  counted-same : {rows others : List ℕ} → rows ≡ others → counted n owners (hostsOf m n a .heard) (hostsOf m n a .ben) rows ≡ counted n owners (hostsOf m n b .heard) (hostsOf m n b .ben) others
   unfolding counted
   counted-same {rows} {others} e = rw e (same-steps _ _ _ n (λ k u k<. rw (present-same k k<)))
 
 -- In two blocks that differ in one host's vote alone, the slot is the same: state, number, connections, rounds and output.
-module _ (m : ℕ) (st : State) (slot : ℕ) (mode : Mode) (a b : List ℕ) (link : ℕ) (out : List ℕ) (g : ℕ) (alone : VoteAlone (st .ports) g a b) where
+module _ (m : ℕ) (st : State) (slot : ℕ) (mode : Mode) (a b : List ℕ) (link : ℕ) (out : List ℕ) (g : ℕ) (alone : VoteAlone (st .ports) (st .owners) g a b) where
   refusal-same : refusal m st slot mode a out ≡ refusal m st slot mode b out
   unfolding refusal
   refusal-same = rw (alone .same-length)

@@ -14,7 +14,7 @@ use Rattle.ports.specs.declared.state.State.{State}
 use Rattle.demands.specs.Call as tables
 use Rattle.demands.specs.Origin.{Alone}
 use Rattle.demands.specs.SlotCall.{SlotCall, number, sets, onTables}
-use Rattle.demands.specs.Block.{Enabled, Given, Live}
+use Rattle.demands.specs.Block.{Allied, Enabled, Given, Live}
 use Rattle.demands.proofs.Connections as on-tables
 use Rattle.demands.proofs.SlotCalls.{request-rows, slot-cases, whole, same-number, same-sets}
 use Rattle.demands.proofs.SlotHosts.{Whole, given-exactly, live-in-block}
@@ -38,7 +38,7 @@ module _ (m : ℕ) (st : State) (c : SlotCall) where
   -- A connection is an enabled heard host's. It was given to it in the planned stage, the host being the first claimant; or it is a
   -- live request, and all that the host holds.
   pub nothing-from-nowhere : (i t : ℕ) → asks (sets m st c) i t ≡ true
-      → Enabled (st .ports) (c .block) i × (Given st (c .block) i t ⊎ (Live st (c .block) i t × Alone (sets m st c) i t))
+      → Enabled (st .ports) (st .owners) (c .block) i × (Given st (c .block) i t ⊎ (Live st (c .block) i t × Alone (sets m st c) i t))
   nothing-from-nowhere i t e =
       ⊎-elim
       (λ g. let given = given-exactly w i t .0 g in (given .claimant .enabled, inl given))
@@ -54,8 +54,12 @@ module _ (m : ℕ) (st : State) (c : SlotCall) where
       same : sets m st c ≡ tables.sets m st (onTables m st c)
       same = same-sets m st c done
 
+  -- No connection joins ports of different operators.
+  pub within-operators : (i t : ℕ) → asks (sets m st c) i t ≡ true → Allied (st .owners) i t
+  within-operators i t e = ⊎-elim (λ g. g .claimant .plans .allied) (λ (l, _). l .asked .allied) (nothing-from-nowhere i t e .1)
+
   -- A host that is unheard or disabled is connected to nothing.
-  pub absent-unconnected : (i t : ℕ) → (Enabled (st .ports) (c .block) i → ⊥) → asks (sets m st c) i t ≡ false
+  pub absent-unconnected : (i t : ℕ) → (Enabled (st .ports) (st .owners) (c .block) i → ⊥) → asks (sets m st c) i t ≡ false
   absent-unconnected i t absent = refuted _ (λ e. absent (nothing-from-nowhere i t e .0))
 
   -- What was given in the planned stage is connected when the call is served.

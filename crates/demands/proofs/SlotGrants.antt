@@ -66,7 +66,7 @@ module _ (m : ℕ) (most : m ≤ mostPorts) (st : State) (c : SlotCall) (done : 
         every (lt-ltb i (setBits (setBytes n)) (omega arith))
         (every (lt-ltb (row i) (256 ^ setBytes n) (lt-of-lt-of-le (row-small i) (pow-mono most))) (agreeing (eqb (row i) 0)))
 
-    in-place : grantPart n (outputAfter m st c) i ≡ heldFrame (setBytes n) (grant i)
+    pub in-place : grantPart n (outputAfter m st c) i ≡ heldFrame (setBytes n) (grant i)
     unfolding output granted
     in-place =
         let frame : ℕ → List ℕ = λ k. heldFrame (setBytes n) (grant k) in

@@ -18,12 +18,14 @@ use Rattle.frames.specs.Part.{frameLen, hostNumber}
 use Rattle.frames.specs.declared.config.Config.{Config}
 use Rattle.frames.proofs.Trips.{zeros-unread}
 use Rattle.ports.specs.declared.state.State.{State}
+use Rattle.ports.specs.Owners.{among}
+use Rattle.ports.proofs.Owners.{among-has, has-among}
 use Rattle.hearing.specs.Heard.{clears, present, counted}
 use Rattle.shelf.specs.Hosts.{said, isHeard, fieldOf, hostsOf}
 use Rattle.demands.specs.Origin as tables
 use Rattle.demands.specs.Share as tables-share
 use Rattle.demands.specs.Choice.{targetStart}
-use Rattle.demands.specs.Block.{framePart, says, Heard, Requests, Plans, Clears, Enabled, Waits, Given, Live}
+use Rattle.demands.specs.Block.{framePart, says, Heard, Allied, Requests, Plans, Clears, Enabled, Waits, Given, Live}
 use Rattle.demands.proofs.Hosts.{present-exactly, counted-asks, asks-counted}
 
 -- A missing frame, eleven zeros, is unheard.
@@ -62,61 +64,74 @@ module _ {m n : ℕ} {block : List ℕ} (whole : Whole m n block) where
   field-row : (field : Config → ℕ) (h : ℕ) → h < n → getD (tabled m (fieldOf m n block field) n) h 0 ≡ field (says n block h .fields)
   field-row field h h< = row-tabled m (fieldOf m n block field) n h h< (omega (arith, whole .most-ports)) ∙ ap (λ (a : Answer Config). field (a .fields)) (said-says h h<)
 
-  -- ---- rule 2
-
   votes : (h : ℕ) → h < n → getD ben h 0 ≡ says n block h .fields .ben
   unfolding hostsOf
   votes = field-row (λ c. c .ben)
 
-  pub clears-exactly : (i h : ℕ) → h < n → (clears heard ben i h ≡ true) ↔ Clears n block i h
+-- ---- rule 2, the shelf's ports having these owners
+
+module _ (owners : ℕ) {m n : ℕ} {block : List ℕ} (whole : Whole m n block) where
+  abbrev own-heard : ℕ → ℕ
+  own-heard i = among owners i (heard whole)
+
+  pub clears-exactly : (i h : ℕ) → h < n → (clears (own-heard i) (ben whole) i h ≡ true) ↔ Clears n owners block i h
   clears-exactly i h h< = (
-    λ e. let (a, b) = both (has heard h) _ e in record { heard = heard-exactly h h< .0 a; clear = ap (λ s. has s i) (sym (votes h h<)) ∙ not-true _ b },
-    λ c. every (heard-exactly h h< .1 (c .heard)) (ap not (ap (λ s. has s i) (votes h h<) ∙ c .clear)),
+    λ e. let (a, b) = both (has (own-heard i) h) _ e in
+        let (a, o) = among-has owners i (heard whole) h a in
+        record { heard = heard-exactly whole h h< .0 a; allied = o; clear = ap (λ s. has s i) (sym (votes whole h h<)) ∙ not-true _ b },
+    λ c. every (has-among owners i (heard whole) h (c .allied) ∙ heard-exactly whole h h< .1 (c .heard)) (ap not (ap (λ s. has s i) (votes whole h h<) ∙ c .clear)),
   )
 
-  pub enabled-exactly : (i : ℕ) → (present n heard ben i ≡ true) ↔ ((i < n) × Enabled n block i)
+  pub enabled-exactly : (i : ℕ) → (present n (own-heard i) (ben whole) i ≡ true) ↔ ((i < n) × Enabled n owners block i)
   unfolding hostsOf
   enabled-exactly i = (to, from)
     where
-      to : present n heard ben i ≡ true → (i < n) × Enabled n block i
+      to : present n (own-heard i) (ben whole) i ≡ true → (i < n) × Enabled n owners block i
       to e =
-          let (a, b) = present-exactly n heard ben i .0 e in
+          let (a, b) = present-exactly n (own-heard i) (ben whole) i .0 e in
+          let (a, _) = among-has owners i (heard whole) i a in
           let i< = gathered-has (isHeard m n block) n i a .0 in
-          (i<, record { heard = heard-exactly i i< .0 a; not-by-two = λ g h g< h< p q. b g h g< h< (clears-exactly i g g< .1 p) (clears-exactly i h h< .1 q) })
+          (i<, record { heard = heard-exactly whole i i< .0 a; not-by-two = λ g h g< h< p q. b g h g< h< (clears-exactly i g g< .1 p) (clears-exactly i h h< .1 q) })
 
-      from : (i < n) × Enabled n block i → present n heard ben i ≡ true
-      from (i<, e) = present-exactly n heard ben i .1
-          (heard-exactly i i< .1 (e .heard), λ g h g< h< p q. e .not-by-two g h g< h< (clears-exactly i g g< .0 p) (clears-exactly i h h< .0 q))
+      from : (i < n) × Enabled n owners block i → present n (own-heard i) (ben whole) i ≡ true
+      from (i<, e) = present-exactly n (own-heard i) (ben whole) i .1
+          (has-among owners i (heard whole) i refl ∙ heard-exactly whole i i< .1 (e .heard), λ g h g< h< p q. e .not-by-two g h g< h< (clears-exactly i g g< .0 p) (clears-exactly i h h< .0 q))
 
-  -- what counts of a field is what an enabled host sent
+  -- what counts of a field is what an enabled host sent, towards its own operator's ports
   counts : (field : Config → ℕ) (i t : ℕ)
-      → (asks (counted n heard ben (tabled m (fieldOf m n block field) n)) i t ≡ true)
-      ↔ ((i < n) × Enabled n block i × (has (field (says n block i .fields)) t ≡ true))
+      → (asks (counted n owners (heard whole) (ben whole) (tabled m (fieldOf m n block field) n)) i t ≡ true)
+      ↔ ((i < n) × Enabled n owners block i × (has (field (says n block i .fields)) t ≡ true) × Allied owners i t)
   counts field i t = (
-    λ e. let (p, a) = counted-asks n heard ben _ i t e in
+    λ e. let (p, a, o) = counted-asks n owners (heard whole) (ben whole) _ i t e in
         let (i<, enabled) = enabled-exactly i .0 p in
-        (i<, enabled, ap (λ s. has s t) (sym (field-row field i i<)) ∙ a),
-    λ (i<, enabled, a). asks-counted n heard ben _ i t i< (enabled-exactly i .1 (i<, enabled))
-        (ap (λ s. has s t) (field-row field i i<) ∙ a),
+        (i<, enabled, ap (λ s. has s t) (sym (field-row whole field i i<)) ∙ a, o),
+    λ (i<, enabled, a, o). asks-counted n owners (heard whole) (ben whole) _ i t i< (enabled-exactly i .1 (i<, enabled))
+        (ap (λ s. has s t) (field-row whole field i i<) ∙ a) o,
   )
 
   abbrev req : List ℕ
-  req = counted n heard ben (hostsOf m n block .req)
+  req = counted n owners (heard whole) (ben whole) (hostsOf m n block .req)
 
   abbrev pre : List ℕ
-  pre = counted n heard ben (hostsOf m n block .pre)
+  pre = counted n owners (heard whole) (ben whole) (hostsOf m n block .pre)
 
-  pub requests-count : (i t : ℕ) → (asks req i t ≡ true) ↔ ((i < n) × Enabled n block i × Requests n block i t)
+  pub requests-count : (i t : ℕ) → (asks req i t ≡ true) ↔ ((i < n) × Enabled n owners block i × Requests n owners block i t)
   unfolding hostsOf
-  requests-count = counts (λ c. c .req)
+  requests-count i t = (
+    λ e. let (i<, enabled, a, o) = counts (λ c. c .req) i t .0 e in (i<, enabled, record { asked = a; allied = o }),
+    λ (i<, enabled, r). counts (λ c. c .req) i t .1 (i<, enabled, r .asked, r .allied),
+  )
 
-  plans-count : (i t : ℕ) → (asks pre i t ≡ true) ↔ ((i < n) × Enabled n block i × Plans n block i t)
+  plans-count : (i t : ℕ) → (asks pre i t ≡ true) ↔ ((i < n) × Enabled n owners block i × Plans n owners block i t)
   unfolding hostsOf
-  plans-count = counts (λ c. c .pre)
+  plans-count i t = (
+    λ e. let (i<, enabled, a, o) = counts (λ c. c .pre) i t .0 e in (i<, enabled, record { planned = a; allied = o }),
+    λ (i<, enabled, r). counts (λ c. c .pre) i t .1 (i<, enabled, r .planned, r .allied),
+  )
 
   -- ---- demand 3
 
-  pub waits-on-tables : (i t : ℕ) → i < n → Waits n block i t → tables-share.Waits n req pre i t
+  pub waits-on-tables : (i t : ℕ) → i < n → Waits n owners block i t → tables-share.Waits n req pre i t
   waits-on-tables i t i< w = record {
     asked = requests-count i t .1 (i<, w .enabled, w .asked);
     plans-nothing = λ u u<. refuted _ (λ e. w .plans-nothing u u< (plans-count i u .0 e .2));
@@ -126,9 +141,9 @@ module _ {m n : ℕ} {block : List ℕ} (whole : Whole m n block) where
 -- ---- rules 3 and 4
 
 module _ {m : ℕ} {st : State} {block : List ℕ} (whole : Whole m (st .ports) block) where
-  pub given-exactly : (i t : ℕ) → tables.Given st (pre whole) i t ↔ Given st block i t
+  pub given-exactly : (i t : ℕ) → tables.Given st (pre (st .owners) whole) i t ↔ Given st block i t
   given-exactly i t = (
-    λ g. let (i<, enabled, plans) = plans-count whole i t .0 (g .claimant .asks-too) in
+    λ g. let (i<, enabled, plans) = plans-count (st .owners) whole i t .0 (g .claimant .asks-too) in
         record {
           initiator = i<;
           target = g .target;
@@ -136,25 +151,25 @@ module _ {m : ℕ} {st : State} {block : List ℕ} (whole : Whole m (st .ports) 
           turn = g .claimant .turn;
           turn-below = g .claimant .turn-below;
           in-turn = g .claimant .in-turn;
-          first = λ k l q. g .claimant .first k l (plans-count whole _ t .1 (mod-lt (targetStart st t + k) (whole .some-port), q .enabled, q .plans)) refl;
+          first = λ k l q. g .claimant .first k l (plans-count (st .owners) whole _ t .1 (mod-lt (targetStart st t + k) (whole .some-port), q .enabled, q .plans)) refl;
         },
     λ g. record {
       target = g .target;
       claimant = record {
         below = g .initiator;
-        asks-too = plans-count whole i t .1 (g .initiator, g .claimant .enabled, g .claimant .plans);
+        asks-too = plans-count (st .owners) whole i t .1 (g .initiator, g .claimant .enabled, g .claimant .plans);
         lowest = λ x x< e. omega arith;
         turn = g .turn;
         turn-below = g .turn-below;
         in-turn = g .in-turn;
-        first = λ k l e same. let (a, enabled, plans) = plans-count whole _ t .0 e in g .first k l (record { enabled = enabled; plans = plans });
+        first = λ k l e same. let (a, enabled, plans) = plans-count (st .owners) whole _ t .0 e in g .first k l (record { enabled = enabled; plans = plans });
       };
     },
   )
 
-  pub live-in-block : (i t : ℕ) → tables.Live st (req whole) (pre whole) i t → Live st block i t
+  pub live-in-block : (i t : ℕ) → tables.Live st (req (st .owners) whole) (pre (st .owners) whole) i t → Live st block i t
   live-in-block i t l =
-      let (i<, enabled, asked) = requests-count whole i t .0 (l .asked) in
+      let (i<, enabled, asked) = requests-count (st .owners) whole i t .0 (l .asked) in
       record {
         initiator = i<;
         target = l .target;

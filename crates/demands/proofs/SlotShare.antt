@@ -28,7 +28,7 @@ pub waiting-named : (m : ℕ) → m ≤ mostPorts → (st : State) (c : SlotCall
     → asks (sets m st c) i t ≡ true → Alone (sets m st c) i t × (names (st .ports) (outputAfter m st c) i t ≡ true)
 waiting-named m most st c i t i< done w e =
     let same = same-sets m st c done in
-    let only = waiting-alone m st (onTables m st c) i t (waits-on-tables (whole m st c done) i t i< w) (ap (λ s. asks s i t) (sym same) ∙ e) in
+    let only = waiting-alone m st (onTables m st c) i t (waits-on-tables (st .owners) (whole m st c done) i t i< w) (ap (λ s. asks s i t) (sym same) ∙ e) in
     let alone : Alone (sets m st c) i t = λ u q. only u (ap (λ s. asks s i u) (sym same) ∙ q) in
     (alone, held-named m most st c done i i< t e)
 
@@ -51,7 +51,7 @@ slots-fair m most i t = record {
   favours = λ st c k e w (ei, et).
       let done = eqb-true (number m st c) 0 e in
       let i< : i < st .ports = subst (λ (x : ℕ). x < st .ports) ei (served-call m st (onTables m st c) (same-number m st c done) .in-order .offsets .initiator) in
-      connects-named m most st c i t i< done w (tables-fair m i t .favours st (onTables m st c) tt (eq-eqb _ 0 (same-number m st c done)) (waits-on-tables (whole m st c done) i t i< w) (ei, et));
+      connects-named m most st c i t i< done w (tables-fair m i t .favours st (onTables m st c) tt (eq-eqb _ 0 (same-number m st c done)) (waits-on-tables (st .owners) (whole m st c done) i t i< w) (ei, et));
 }
 
 -- Of W served slot calls in a history, in each of which the pair (i, t) waits, W / n² or more connect it. Declined calls may stand between

@@ -10,6 +10,7 @@ use Rattle.frames.specs.Frame.{Answer}
 use Rattle.frames.specs.Config.{readConfig}
 use Rattle.frames.specs.Part.{frameLen}
 use Rattle.frames.specs.declared.config.Config.{Config}
+use Rattle.ports.specs.Owners.{operator}
 use Rattle.ports.specs.declared.state.State.{State}
 use Rattle.choices.specs.Choice.{place}
 use Rattle.demands.specs.Choice.{targetStart}
@@ -26,58 +27,65 @@ says n block h = readConfig (framePart n block h)
 abbrev pub Heard : ℕ → List ℕ → ℕ → Type 0
 Heard n block h = says n block h .number ≡ 0
 
--- target t is in the req of host h; and in its pre
-abbrev pub Requests : ℕ → List ℕ → ℕ → ℕ → Type 0
-Requests n block h t = has (says n block h .fields .req) t ≡ true
+-- ports a and b are of one operator
+abbrev pub Allied : ℕ → ℕ → ℕ → Type 0
+Allied owners a b = operator owners a ≡ operator owners b
 
-abbrev pub Plans : ℕ → List ℕ → ℕ → ℕ → Type 0
-Plans n block h t = has (says n block h .fields .pre) t ≡ true
+-- target t is in the req of host h, and of its operator; and so in its pre
+pub record Requests (n owners : ℕ) (block : List ℕ) (h t : ℕ) : Type 0 where
+  pub asked : has (says n block h .fields .req) t ≡ true
+  pub allied : Allied owners h t
 
--- rule 2: host h is heard and has bit i clear in ben
-pub record Clears (n : ℕ) (block : List ℕ) (i h : ℕ) : Type 0 where
+pub record Plans (n owners : ℕ) (block : List ℕ) (h t : ℕ) : Type 0 where
+  pub planned : has (says n block h .fields .pre) t ≡ true
+  pub allied : Allied owners h t
+
+-- rule 2: host h is heard, is of host i's operator and has bit i clear in ben
+pub record Clears (n owners : ℕ) (block : List ℕ) (i h : ℕ) : Type 0 where
   pub heard : Heard n block h
+  pub allied : Allied owners i h
   pub clear : has (says n block h .fields .ben) i ≡ false
 
 -- rule 2: host i is heard, and no two different hosts of n clear its bit
-pub record Enabled (n : ℕ) (block : List ℕ) (i : ℕ) : Type 0 where
+pub record Enabled (n owners : ℕ) (block : List ℕ) (i : ℕ) : Type 0 where
   pub heard : Heard n block i
-  pub not-by-two : (g h : ℕ) → g < n → h < n → Clears n block i g → Clears n block i h → g ≡ h
+  pub not-by-two : (g h : ℕ) → g < n → h < n → Clears n owners block i g → Clears n owners block i h → g ≡ h
 
 -- document 02, item 1: target t is asked by host i, both below n: the host is heard and enabled, and t is in its req
-pub record Asks (n : ℕ) (block : List ℕ) (i t : ℕ) : Type 0 where
+pub record Asks (n owners : ℕ) (block : List ℕ) (i t : ℕ) : Type 0 where
   pub initiator : i < n
   pub target : t < n
-  pub enabled : Enabled n block i
-  pub asked : Requests n block i t
+  pub enabled : Enabled n owners block i
+  pub asked : Requests n owners block i t
 
 -- demand 3: host i is enabled, asks for t and plans nothing, and no enabled host plans t
-pub record Waits (n : ℕ) (block : List ℕ) (i t : ℕ) : Type 0 where
-  pub enabled : Enabled n block i
-  pub asked : Requests n block i t
-  pub plans-nothing : (u : ℕ) → u < n → Plans n block i u → ⊥
-  pub unplanned : (h : ℕ) → h < n → Enabled n block h → Plans n block h t → ⊥
+pub record Waits (n owners : ℕ) (block : List ℕ) (i t : ℕ) : Type 0 where
+  pub enabled : Enabled n owners block i
+  pub asked : Requests n owners block i t
+  pub plans-nothing : (u : ℕ) → u < n → Plans n owners block i u → ⊥
+  pub unplanned : (h : ℕ) → h < n → Enabled n owners block h → Plans n owners block h t → ⊥
 
 -- rule 3: host h is enabled and plans target t
-pub record Claimant (n : ℕ) (block : List ℕ) (t h : ℕ) : Type 0 where
-  pub enabled : Enabled n block h
-  pub plans : Plans n block h t
+pub record Claimant (n owners : ℕ) (block : List ℕ) (t h : ℕ) : Type 0 where
+  pub enabled : Enabled n owners block h
+  pub plans : Plans n owners block h t
 
 -- rule 3: target t is given to host i, its first claimant in the rotation that starts at (I + t - J) mod n
 pub record Given (st : State) (block : List ℕ) (i t : ℕ) : Type 0 where
   pub initiator : i < st .ports
   pub target : t < st .ports
-  pub claimant : Claimant (st .ports) block t i
+  pub claimant : Claimant (st .ports) (st .owners) block t i
   pub turn : ℕ
   pub turn-below : turn < st .ports
   pub in-turn : place (st .ports) (targetStart st t) turn ≡ i
-  pub first : (k : ℕ) → k < turn → Claimant (st .ports) block t (place (st .ports) (targetStart st t) k) → ⊥
+  pub first : (k : ℕ) → k < turn → Claimant (st .ports) (st .owners) block t (place (st .ports) (targetStart st t) k) → ⊥
 
 -- rule 4: enabled host i asks for target t, is given no target, and t is given to nobody
 pub record Live (st : State) (block : List ℕ) (i t : ℕ) : Type 0 where
   pub initiator : i < st .ports
   pub target : t < st .ports
-  pub enabled : Enabled (st .ports) block i
-  pub asked : Requests (st .ports) block i t
+  pub enabled : Enabled (st .ports) (st .owners) block i
+  pub asked : Requests (st .ports) (st .owners) block i t
   pub given-none : (u : ℕ) → Given st block i u → ⊥
   pub given-to-none : (j : ℕ) → Given st block j t → ⊥
 

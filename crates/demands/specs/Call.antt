@@ -35,4 +35,4 @@ served m st c = eqb (number m st c) 0
 
 -- the call with what counts of its tables, by rules 1 and 2
 abbrev pub counting : State → ℕ → List ℕ → Call → Call
-counting st heard ben c = record { slot = c .slot; mode = c .mode; req = counted (st .ports) heard ben (c .req); pre = counted (st .ports) heard ben (c .pre) }
+counting st heard ben c = record { slot = c .slot; mode = c .mode; req = counted (st .ports) (st .owners) heard ben (c .req); pre = counted (st .ports) (st .owners) heard ben (c .pre) }

@@ -28,4 +28,4 @@ connects m i t st c = served m st c && (asks (sets m st c) i t && names (st .por
 
 -- the pair waits in a call
 abbrev pub Waiting : ℕ → ℕ → State → SlotCall → Type 0
-Waiting i t st c = Waits (st .ports) (c .block) i t
+Waiting i t st c = Waits (st .ports) (st .owners) (c .block) i t

@@ -15,6 +15,7 @@ use Rattle.frames.specs.Config.{configFields, configFrame, configAnswer, readCo
 use Rattle.frames.specs.declared.config.Config.{Config}
 use Rattle.frames.specs.declared.config.ConfigRead.the-variants.{Frame}
 use Rattle.frames.proofs.ConfigLaws.{length-config, config-reads}
+use Rattle.ports.proofs.Owners.{no-owners}
 use Rattle.demands.specs.Block.{says, Waits}
 use Rattle.demands.proofs.Small.{small}
 use Rattle.diagonals.specs.Crowd.{asksZero, crowdBlock}
@@ -33,14 +34,15 @@ module _ (n : ℕ) (most : n ≤ mostPorts) where
   crowd-says : (h : ℕ) → h < n → says n (crowdBlock n) h ≡ configAnswer (Frame (asksZero n))
   crowd-says h h< = ap readConfig (part-at (λ h. configFrame (asksZero n)) (frameLen n) (λ h. length-config (asksZero n)) n h h<) ∙ config-reads (asksZero n) fits
 
-  pub crowd-waits : (h : ℕ) → h < n → Waits n (crowdBlock n) h 0
+  -- of a shelf whose ports are all operator 0's
+  pub crowd-waits : (h : ℕ) → h < n → Waits n 0 (crowdBlock n) h 0
   crowd-waits h h< = record {
     enabled = record {
       heard = ap (λ (a : Answer Config). a .number) (crowd-says h h<);
       not-by-two = λ g k g< k< p q.
           absurd (true≢false (sym (has-gathered (λ h. true) n h h<) ∙ sym (ap (λ (a : Answer Config). has (a .fields .ben) h) (crowd-says g g<)) ∙ p .clear));
     };
-    asked = ap (λ (a : Answer Config). has (a .fields .req) 0) (crowd-says h h<);
-    plans-nothing = λ u u< p. true≢false (sym p ∙ ap (λ (a : Answer Config). has (a .fields .pre) u) (crowd-says h h<) ∙ has-none u);
-    unplanned = λ g g< e p. true≢false (sym p ∙ ap (λ (a : Answer Config). has (a .fields .pre) 0) (crowd-says g g<) ∙ has-none 0);
+    asked = record { asked = ap (λ (a : Answer Config). has (a .fields .req) 0) (crowd-says h h<); allied = no-owners h ∙ sym (no-owners 0) };
+    plans-nothing = λ u u< p. true≢false (sym (p .planned) ∙ ap (λ (a : Answer Config). has (a .fields .pre) u) (crowd-says h h<) ∙ has-none u);
+    unplanned = λ g g< e p. true≢false (sym (p .planned) ∙ ap (λ (a : Answer Config). has (a .fields .pre) 0) (crowd-says g g<) ∙ has-none 0);
   }

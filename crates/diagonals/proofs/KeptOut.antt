@@ -24,9 +24,10 @@ use Rattle.demands.proofs.Turns.{advance-below}
 use Rattle.demands.proofs.SlotCalls.{limit-exactly}
 use Rattle.demands.proofs.SlotConnections.{no-target-twice}
 use Rattle.demands.proofs.SlotServed.{served-in-order, served-advances}
-use Rattle.bellacush.specs.Slot.{stateLen, stateOf, stateBytes, stateAfter, fits, run, slotState}
-use Rattle.bellacush.proofs.Slots.{length-state}
-use Rattle.bellacush.proofs.Trips.{state-reads-back}
+use Rattle.table_bytes.specs.State.{stateLen, stateOf, stateBytes}
+use Rattle.table_bytes.proofs.Fits.{length-state}
+use Rattle.table_bytes.proofs.Trips.{state-reads-back}
+use Rattle.bellacush.specs.Slot.{stateAfter, fits, run, slotState}
 use Rattle.promised.specs.Call as c
 use Rattle.promised.specs.Share as on-bytes
 use Rattle.promised.specs.Demanded.{Served}
@@ -46,17 +47,18 @@ state-long m state slot mode block out table long =
     (λ e. arms (λ (s : List ℕ). length s ≡ stateLen) (eqb (run m state slot mode block out table .answer .number) 0) _ _ (λ f. length-state _) (λ f. long)) (λ e. long)
 
 module _ (m n : ℕ) (shelf : m ≤ mostPorts) (most : n ≤ m) (two : 2 ≤ n) where
-  -- n ports, and offsets below them
+  -- n ports, all of them operator 0's, and offsets below them
   record Good (st : State) : Type 0 where
     ports : st .ports ≡ n
     offsets : Below st
+    owners : st .owners ≡ 0
 
   first-good : Good (fromOne n)
-  first-good = record { ports = refl; offsets = record { initiator = omega arith; target = omega arith } }
+  first-good = record { ports = refl; offsets = record { initiator = omega arith; target = omega arith }; owners = refl }
 
   good-next : (st : State) → Good st → Good (advance st)
   unfolding advance
-  good-next st good = record { ports = good .ports; offsets = advance-below st (good .offsets) }
+  good-next st good = record { ports = good .ports; offsets = advance-below st (good .offsets); owners = good .owners }
 
   module _ (st : State) (good : Good st) where
     in-order : InOrder m st
@@ -78,7 +80,7 @@ module _ (m n : ℕ) (shelf : m ≤ mostPorts) (most : n ≤ m) (two : 2 ≤ n) 
     keeps = λ st good. tt;
     serves = λ st good. eq-eqb _ 0 (frames-serve st good);
     stays = λ st good. rw (served-advances m st (crowdCall st) (frames-serve st good)) (good-next st good);
-    waits = λ st good h h<. (refl, crowd-waits (st .ports) (omega (arith, good .ports)) h (rw (good .ports) h<));
+    waits = λ st good h h<. (refl, rw (good .owners) (crowd-waits (st .ports) (omega (arith, good .ports)) h (rw (good .ports) h<)));
     fair = λ h. slots-diagonal m shelf h 0;
     apart = λ st g h good p q. no-target-twice m st (crowdCall st) g h 0 (both (asks (frames.sets m st (crowdCall st)) g 0) _ (both (frames.served m st (crowdCall st)) _ p .1) .0) q;
   }
@@ -95,19 +97,19 @@ module _ (m n : ℕ) (shelf : m ≤ mostPorts) (most : n ≤ m) (two : 2 ≤ n) 
 
   module _ (state : List ℕ) (good : CGood state) where
     lengths : c.Lengths m state (cCrowd m state)
-    lengths = record { seven = length-take-le stateLen state (good .long); two-each = length-replicate (m * 2) 0 }
+    lengths = record { nine = length-take-le stateLen state (good .long); two-each = length-replicate (m * 2) 0 }
 
     c-serves : c.number (cCrowd m state) ≡ 0
     c-serves = number-there m state (cCrowd m state) refl lengths
         ∙ serves (stateOf state) (good .good) (c.onFrames m (cCrowd m state)) refl refl refl (λ w. omega (arith, limit-exactly m (diagonalMode m) .0 w))
 
     on-frames-too : Served m state (cCrowd m state)
-    on-frames-too = served-call m state (cCrowd m state) refl shelf c-serves
+    on-frames-too = served-call m state (cCrowd m state) refl shelf (omega (arith, good .good .owners)) c-serves
 
     c-long : stateLen ≤ length (cCrowd m state .left .state)
     c-long =
         let h = cCrowd m state .handed in
-        let left = state-long m (take stateLen state) (h .slot) (h .mode) (h .block) (h .out) (h .table) (lengths .seven) in
+        let left = state-long m (take stateLen state) (h .slot) (h .mode) (h .block) (h .out) (h .table) (lengths .nine) in
         rw (length-append _ (drop stateLen state)) (omega (arith, left))
 
     c-stays : CGood (c.next state (cCrowd m state))
@@ -122,19 +124,19 @@ module _ (m n : ℕ) (shelf : m ≤ mostPorts) (most : n ≤ m) (two : 2 ≤ n) 
         let held = both (on-bytes.holds (cCrowd m state .left .table) g 0) _ (both (c.served state (cCrowd m state)) _ p .1) .0 in
         no-target-twice m (stateOf state) (c.onFrames m (cCrowd m state)) g h 0 (sym (same g 0) ∙ held) (sym (same h 0) ∙ q)
 
-  c-crowd : Crowd stateOf (c.Kept m) c.next c.served (λ h. on-bytes.connects h 0) (λ h state d. on-bytes.holds (d .left .table) h 0) (λ h. CWaiting m h 0) CGood n
+  c-crowd : Crowd stateOf (c.OnBytes m) c.next c.served (λ h. on-bytes.connects h 0) (λ h state d. on-bytes.holds (d .left .table) h 0) (λ h. CWaiting m h 0) CGood n
   c-crowd = record {
     call = cCrowd m;
-    keeps = λ state good. refl;
+    keeps = λ state good. record { kept = refl; owners = omega (arith, good .good .owners) };
     serves = λ state good. eq-eqb _ 0 (c-serves state good);
     stays = c-stays;
-    waits = λ state good h h<. let ports = good .good .ports in (refl, crowd-waits (stateOf state .ports) (omega arith) h (rw ports h<));
+    waits = λ state good h h<. let ports = good .good .ports in (refl, rw (good .good .owners) (crowd-waits (stateOf state .ports) (omega arith) h (rw ports h<)));
     fair = λ h. c-diagonal m shelf h 0;
     apart = λ state g h good. c-apart state good g h;
   }
 
   -- And a history of n served C calls, each of which kept its promise.
-  pub c-kept-out : KeptOut stateOf (c.Kept m) c.next c.served (λ state d. on-bytes.holds (d .left .table) 0 0) (CWaiting m 0 0) n
+  pub c-kept-out : KeptOut stateOf (c.OnBytes m) c.next c.served (λ state d. on-bytes.holds (d .left .table) 0 0) (CWaiting m 0 0) n
   c-kept-out =
-      let is : stateOf (stateBytes (fromOne n)) ≡ fromOne n = state-reads-back (fromOne n) (record { ports = omega arith; initiator = omega arith; target = omega arith; due = omega arith }) in
+      let is : stateOf (stateBytes (fromOne n)) ≡ fromOne n = state-reads-back (fromOne n) (record { ports = omega arith; initiator = omega arith; target = omega arith; due = omega arith; owners = omega arith }) in
       keeps-out n two c-crowd (stateBytes (fromOne n)) (record { long = le-of-eq (sym (length-state (fromOne n))); good = rw is first-good }) is

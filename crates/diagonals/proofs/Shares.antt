@@ -4,6 +4,7 @@ use mathlib.Core.List.{List}
 use Prim.Native.Nat.{ℕ, _≤_, _<_}
 use native.Mathlib.Omega.{arith}
 use borrow.Author.Tests.{eq-eqb, ne-eqb, eqb-true}
+use Rattle.laws.specs.Bytes.{Bytes}
 use Rattle.frames.specs.Part.{mostPorts}
 use Rattle.ports.specs.Modes.{diagonalMode, modeOf}
 use Rattle.ports.specs.declared.state.State.{State}
@@ -18,10 +19,10 @@ use Rattle.demands.proofs.SlotCalls.{whole, same-number}
 use Rattle.demands.proofs.SlotHosts.{waits-on-tables}
 use Rattle.demands.proofs.SlotShare.{connects-named, slots-move}
 use Rattle.demands.proofs.LentHistory.{lent-fair}
-use Rattle.bellacush.specs.Slot.{stateOf}
+use Rattle.table_bytes.specs.State.{stateOf}
 use Rattle.promised.specs.Call as c
 use Rattle.promised.specs.Share as on-bytes
-use Rattle.promised.proofs.Histories.{c-fair}
+use Rattle.promised.proofs.Histories.{all-on-bytes, c-fair}
 use Rattle.diagonals.specs.Share.{Waiting, LentWaiting, CWaiting, oneInAny, nInAny}
 use Rattle.diagonals.proofs.Diagonal.{OnDiagonal, on-below, diagonal-connects}
 use Rattle.diagonals.proofs.Aligned.{fair-once, fair-n-times}
@@ -35,7 +36,7 @@ module _ (m : ℕ) (most : m ≤ mostPorts) (i t : ℕ) where
         let on-tables = same-number m st c done in
         let r = served-call m st (frames.onTables m st c) on-tables in
         let (i<, _) = on-below i t st on in
-        let hit = diagonal-connects st _ _ i t (r .in-order .offsets) on (waits-on-tables (whole m st c done) i t i< w) in
+        let hit = diagonal-connects st _ _ i t (r .in-order .offsets) on (waits-on-tables (st .owners) (whole m st c done) i t i< w) in
         connects-named m most st c i t i< done w (rw (eq-eqb _ 0 on-tables, r .sets-matched, mode) hit);
   }
 
@@ -62,15 +63,15 @@ module _ (m : ℕ) (most : m ≤ mostPorts) (i t : ℕ) where
   unfolding modeOf
   diagonal-mode mode e = rw (ne-eqb mode 0 (λ z. omega arith), eq-eqb mode (diagonalMode m) e)
 
-  pub c-diagonal : Fair stateOf (c.Kept m) c.next c.served (on-bytes.connects i t) (CWaiting m i t) (OnDiagonal i t)
+  pub c-diagonal : Fair stateOf (c.OnBytes m) c.next c.served (on-bytes.connects i t) (CWaiting m i t) (OnDiagonal i t)
   c-diagonal =
       let fair = c-fair m most i t slots-diagonal in
       record { moves = fair .moves; favours = λ state d kept e (mode, w) on. fair .favours state d kept e (diagonal-mode (d .handed .mode) mode, w) on }
 
-  module _ (state : List ℕ) (calls : List c.CCall) (kept : InEach c.next (c.Kept m) state calls) (b : Below (stateOf state)) (i< : i < stateOf state .ports) (t< : t < stateOf state .ports)
+  module _ (state : List ℕ) (bytes : Bytes state) (calls : List c.CCall) (kept : InEach c.next (c.Kept m) state calls) (b : Below (stateOf state)) (i< : i < stateOf state .ports) (t< : t < stateOf state .ports)
       (w : InServed c.next c.served (CWaiting m i t) state calls) where
     pub c-once : oneInAny (stateOf state .ports) (howMany c.next c.served state calls) ≤ howMany c.next (on-bytes.connects i t) state calls
-    c-once = fair-once c-diagonal state calls kept b i< t< w
+    c-once = fair-once c-diagonal state calls (all-on-bytes m most calls state bytes kept) b i< t< w
 
     pub c-n-times : nInAny (stateOf state .ports) (howMany c.next c.served state calls) ≤ howMany c.next (on-bytes.connects i t) state calls
-    c-n-times = fair-n-times c-diagonal state calls kept b i< t< w
+    c-n-times = fair-n-times c-diagonal state calls (all-on-bytes m most calls state bytes kept) b i< t< w

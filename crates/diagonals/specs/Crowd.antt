@@ -12,7 +12,7 @@ use Rattle.ports.specs.Modes.{diagonalMode}
 use Rattle.ports.specs.declared.state.State.{State}
 use Rattle.ports.specs.declared.state.Mode.the-variants.{Diagonal}
 use Rattle.demands.specs.SlotCall.{SlotCall}
-use Rattle.bellacush.specs.Slot.{stateLen, stateOf}
+use Rattle.table_bytes.specs.State.{stateLen, stateOf}
 use Rattle.promised.specs.Call.{CCall, Handed, promise}
 
 -- a host asks for target 0, plans nothing and disables none of n hosts
@@ -37,6 +37,6 @@ crowdHanded m state =
 abbrev pub cCrowd : ℕ → List ℕ → CCall
 cCrowd m state = record { handed = crowdHanded m state; left = promise m state (crowdHanded m state) }
 
--- from offsets (1, 0) on host 0 has to wait for n slots
+-- from offsets (1, 0) on host 0 has to wait for n slots; all ports are operator 0's
 abbrev pub fromOne : ℕ → State
-fromOne n = record { ports = n; initiator = record { 0 = 1 }; target = record { 0 = 0 }; due = 0 }
+fromOne n = record { ports = n; initiator = record { 0 = 1 }; target = record { 0 = 0 }; due = 0; owners = 0 }

@@ -1,13 +1,13 @@
 -- Words as sets, over every width w: what the code's shifts and masks come to, and which digits they leave.
-use mathlib.Core.Path.{_≡_, refl, sym, ap, _∙_}
-use mathlib.Core.Bool.{_&&_}
+use mathlib.Core.Path.{_≡_, refl, sym, ap, ap₂, _∙_}
+use mathlib.Core.Bool.{not, _&&_}
 use Prim.Native.Nat.{ℕ, zero, suc, min, _+_, _-_, _*_, _/_, _%_, _^_, _≤_, _<_}
 use native.Mathlib.Nat.{mod-lt, one-mul, div-one, pow-suc, mul-comm, div-div-eq-div-mul, lt-of-lt-of-le, div-eq-of-lt, le-of-suc-le-suc, not-suc-le-zero}
 use native.Mathlib.Decide.{decLt}
 use native.Mathlib.Omega.{arith}
 use lib.Dec.{eqb}
 use lib.Pow.{shl-exact, pow-add, pow-mono, shr-shr, mod-mod-pow, field, high, low}
-use lib.Bits.{bitAnd, bitOr, and-high, and-shr, and-step}
+use lib.Bits.{bitAnd, bitOr, and-high, and-shr, and-step, and-le-l}
 use lib.Count.{trailingZeros, under}
 use Rattle.laws.specs.Sets.{digit, has, with, without}
 
@@ -45,6 +45,29 @@ digit-zero s = ap (λ x. x % 2) (div-one s)
 
 pub digit-suc : (s k : ℕ) → digit s (suc k) ≡ digit (s / 2) k
 digit-suc s k = rw (pow-suc, mul-comm, ← div-div-eq-div-mul)
+
+-- what is in s and not in o
+low-rest : (s a x m : ℕ) → s % 2 ≡ x → m ≤ x → a ≤ s / 2 → (s - (a * 2 + m)) % 2 ≡ x - m
+low-rest s a x m e h l = omega arith
+
+digit-rest : (s o k : ℕ) → digit (s - bitAnd s o) k ≡ digit s k - min (digit s k) (digit o k)
+digit-rest s o zero = simp div-one (rw (and-step s o)
+    (low-rest s (bitAnd (s / 2) (o / 2)) (s % 2) (min (s % 2) (o % 2)) refl (omega arith) (and-le-l (s / 2) (o / 2))))
+digit-rest s o (suc k) =
+    let h : (s - bitAnd s o) / 2 ≡ s / 2 - bitAnd (s / 2) (o / 2) = omega (arith, and-step s o, and-le-l (s / 2) (o / 2)) in
+    digit-suc _ k ∙ ap (λ x. digit x k) h ∙ digit-rest (s / 2) (o / 2) k ∙ ap₂ (λ x y. x - min x y) (sym (digit-suc s k)) (sym (digit-suc o k))
+
+rest-bits : (x y : ℕ) → x < 2 → y < 2 → eqb (x - min x y) 1 ≡ (eqb x 1 && not (eqb y 1))
+rest-bits zero zero h l = refl
+rest-bits zero (suc zero) h l = refl
+rest-bits (suc zero) zero h l = refl
+rest-bits (suc zero) (suc zero) h l = refl
+rest-bits zero (suc (suc y)) h l = absurd (omega arith)
+rest-bits (suc zero) (suc (suc y)) h l = absurd (omega arith)
+rest-bits (suc (suc x)) y h l = absurd (omega arith)
+
+pub has-rest : (s o k : ℕ) → has (s - bitAnd s o) k ≡ (has s k && not (has o k))
+has-rest s o k = ap (λ d. eqb d 1) (digit-rest s o k) ∙ rest-bits _ _ (mod-lt (s / 2 ^ k) (omega arith)) (mod-lt (o / 2 ^ k) (omega arith))
 
 pub digit-past : (s n k : ℕ) → s < 2 ^ n → n ≤ k → digit s k ≡ 0
 digit-past s n k h l = ap (λ x. x % 2) (div-eq-of-lt (lt-of-lt-of-le h (pow-mono l)))

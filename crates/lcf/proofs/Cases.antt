@@ -11,6 +11,7 @@ use Rattle.ports.specs.Due.{behind, wrongLimit, dueNumber, declined}
 use Rattle.ports.specs.declared.state.State.{State}
 use Rattle.ports.specs.declared.state.Mode.{Mode}
 use Rattle.ports.specs.declared.state.Mode.the-variants.{Central, Distributed, Diagonal}
+use Rattle.ports.specs.Owners.{among}
 use Rattle.hearing.specs.Heard.{present, counted}
 use Rattle.choices.specs.Choice.{choice, fewest}
 use Rattle.choices.specs.Join.{join, joinLive}
@@ -27,7 +28,7 @@ whole rows = rows ++ replicate (mostPorts - 4) 0
 -- the number, the rounds and the sets of n initiators, at offsets (i, j)
 shown : ℕ → ℕ → ℕ → Mode → List ℕ → List ℕ → List ℕ
 shown n i j mode req pre =
-    let st : State = record { ports = n; initiator = record { 0 = i }; target = record { 0 = j }; due = 7 } in
+    let st : State = record { ports = n; initiator = record { 0 = i }; target = record { 0 = j }; due = 7; owners = 0 } in
     let a = slotOnTables mostPorts st 7 mode (whole req) (whole pre) .answer in
     a .number ∷ a .rounds ∷ take n (a .sets)
 
@@ -42,7 +43,7 @@ cases =
     ∷ shown 3 1 2 Central (5 ∷ 0 ∷ 6 ∷ 0 ∷ []) none
     ∷ shown 3 0 0 Central (0 ∷ 3 ∷ 0 ∷ 0 ∷ []) none
     ∷ shown 4 3 1 Central (9 ∷ 3 ∷ 0 ∷ 0 ∷ []) (8 ∷ 0 ∷ 0 ∷ 10 ∷ [])
-    ∷ shown 2 0 0 Central (counted 2 3 (3 ∷ 2 ∷ []) (1 ∷ 1 ∷ 0 ∷ 0 ∷ [])) none
+    ∷ shown 2 0 0 Central (counted 2 0 3 (3 ∷ 2 ∷ []) (1 ∷ 1 ∷ 0 ∷ 0 ∷ [])) none
     ∷ shown 3 0 0 (Distributed 1) (3 ∷ 1 ∷ 6 ∷ 0 ∷ []) none
     ∷ shown 3 2 0 (Distributed 1) (3 ∷ 7 ∷ 4 ∷ 0 ∷ []) none
     ∷ shown 3 2 0 (Distributed 2) (3 ∷ 7 ∷ 4 ∷ 0 ∷ []) none
@@ -60,7 +61,7 @@ worked : cases ≡
     ∷ (0 ∷ 1 ∷ 2 ∷ 0 ∷ 4 ∷ [])
     ∷ (0 ∷ 2 ∷ 2 ∷ 1 ∷ 4 ∷ [])
     ∷ []
-unfolding cases none shown whole steps ones present counted choice join joinLive planner give planned fewest winner serve askers grants offers accepted answer round oneMore distributed advance within start serveMode matched behind wrongLimit dueNumber declined ended slotOnTables
+unfolding cases none shown whole steps ones among present counted choice join joinLive planner give planned fewest winner serve askers grants offers accepted answer round oneMore distributed advance within start serveMode matched behind wrongLimit dueNumber declined ended slotOnTables
 worked = refl
 
 -- Diagonal first, B, C, E and F: in B initiator 2 holds target 2 now, in E the pair (1, 1) has its turn, and in C and F the central form serves the rest.

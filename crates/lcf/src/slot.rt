@@ -39,6 +39,7 @@ fn advance(state: State) -> State
     ensures { λ r. ⌜ r ≡ advance state ⌝ }
 {
     let n = state.ports;
+    let owners = state.owners;
     let i = following(state.initiator.0, n);
     let due = std::num::wrapping_add_u32(state.due, 1);
     if i == 0 {
@@ -47,6 +48,7 @@ fn advance(state: State) -> State
             initiator: Initiator(i),
             target: Target(following(state.target.0, n)),
             due,
+            owners,
         }
     } else {
         State {
@@ -54,6 +56,7 @@ fn advance(state: State) -> State
             initiator: Initiator(i),
             target: Target(state.target.0),
             due,
+            owners,
         }
     }
 }

@@ -58,7 +58,7 @@ module _ (mode : ℕ) (calls : ℕ → SlotCall) (st : State) (slots : ℕ) (h :
 
   starts : startState mostPorts n body (st .due) ≡ st
   unfolding startState
-  starts = rw read
+  starts = let none = sym (h .one-operator) in rw read (λ k. record { ports = n; initiator = st .initiator; target = st .target; due = st .due; owners = none k })
 
   found : (k : ℕ) → k < slots → blockPart mostPorts n slots k body ≡ calls k .block
   found k l =

@@ -15,10 +15,11 @@ use Rattle.trace_writer.specs.Sealing.{bodyOf}
 unfoldable pub liveState : ℕ → (ℕ → SlotCall) → State → ℕ → State
 liveState m calls = steps (λ k st. next m st (calls k))
 
--- so many calls, as many as a body holds, made in one mode from st on, were served
+-- so many calls, as many as a body holds, made in one mode from st on, were served, on a shelf of one operator: a trace has no owners
 pub record Served (m mode : ℕ) (calls : ℕ → SlotCall) (st : State) (slots : ℕ) : Type 0 where
   pub some : 1 ≤ slots
   pub most : slots ≤ mostSlots (st .ports)
+  pub one-operator : st .owners ≡ 0
   pub one-mode : (k : ℕ) → k < slots → calls k .mode ≡ modeOf m mode
   pub served : (k : ℕ) → k < slots → number m (liveState m calls st k) (calls k) ≡ 0
   pub slot-words : (k : ℕ) → k < slots → calls k .slot < 2 ^ 32

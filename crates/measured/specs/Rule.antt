@@ -9,7 +9,7 @@ use Rattle.central.specs.Central.{central}
 use Rattle.table_bytes.specs.Table.{tableIn, tablePut}
 
 abbrev pub stateAt : ℕ → ℕ → ℕ → State
-stateAt n i j = record { ports = n; initiator = record { 0 = i }; target = record { 0 = j }; due = 0 }
+stateAt n i j = record { ports = n; initiator = record { 0 = i }; target = record { 0 = j }; due = 0; owners = 0 }
 
 -- nothing is held yet
 abbrev pub asking : ℕ → List ℕ → Work

@@ -20,6 +20,7 @@ fn state_at(n: u32, i: u32, j: u32) -> State
         initiator: Initiator(i as usize),
         target: Target(j as usize),
         due: 0,
+        owners: 0,
     }
 }
 

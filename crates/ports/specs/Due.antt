@@ -34,4 +34,4 @@ declined m st number = record { state = st; answer = record { number = number; r
 -- the state, and one of a single port where 1 or 2 declines it
 unfoldable pub orderly : ℕ → State → State
 orderly m st =
-    cond (eqb (dueNumber m st (st .due) Central) 0) st (record { ports = 1; initiator = record { 0 = 0 }; target = record { 0 = 0 }; due = st .due })
+    cond (eqb (dueNumber m st (st .due) Central) 0) st (record { ports = 1; initiator = record { 0 = 0 }; target = record { 0 = 0 }; due = st .due; owners = st .owners })

@@ -1,3 +1,4 @@
+pub mod Owners
 pub mod Ready
 pub mod Modes
 pub mod Tables

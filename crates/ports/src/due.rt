@@ -58,6 +58,7 @@ pub fn orderly(state: State) -> State
             initiator: Initiator(0),
             target: Target(0),
             due: state.due,
+            owners: state.owners,
         }
     }
 }

@@ -1,6 +1,7 @@
 // The ports of a shelf: its state, its tables, the modes of a slot, and the numbers 1 to 5.
 mod answer;
 mod due;
+mod operators;
 mod state;
 mod tables;
 

@@ -2,7 +2,7 @@
 use mathlib.Core.Path.{_≡_, refl, sym, ap, _∙_}
 use mathlib.Core.Bool.{Bool, true, false, true≢false}
 use mathlib.Core.List.{List, _++_}
-use Prim.Native.Nat.{ℕ, _≤_, _<_}
+use Prim.Native.Nat.{ℕ, _^_, _≤_, _<_}
 use native.Mathlib.Nat.{lt-of-lt-of-le, mod-eq-of-lt}
 use native.Mathlib.Decide.{ℕ-discrete}
 use native.Mathlib.Omega.{arith}
@@ -15,6 +15,7 @@ use Rattle.laws.proofs.Tests.{both, every, refuted}
 use Rattle.frames.specs.Part.{mostPorts}
 use Rattle.ports.specs.declared.state.State.{State}
 use Rattle.ports.specs.declared.answer.Answer.{Answer}
+use Rattle.lcf.specs.Advance.{advance}
 use Rattle.demands.specs.SlotCall as frames
 use Rattle.demands.specs.Numbers.{Row, given, passed}
 use Rattle.demands.specs.Refusal.{InOrder}
@@ -24,9 +25,11 @@ use Rattle.demands.proofs.SlotCalls.{number-by-table, same-number}
 use Rattle.demands.proofs.SlotGrants.{row-small}
 use Rattle.demands.proofs.SlotRefusal.{declined-does-nothing}
 use Rattle.demands.proofs.SlotServed.{served-advances}
-use Rattle.bellacush.specs.Slot.{stateOf, stateBytes, wordOf, stateAfter, tableAfter, fits, run, slotWord, slotState, slotTable, slotOutput}
-use Rattle.bellacush.proofs.Slots.{length-state}
-use Rattle.bellacush.proofs.Trips.{state-reads-back, word-number, word-rounds}
+use Rattle.table_bytes.specs.State.{stateOf, stateBytes}
+use Rattle.table_bytes.proofs.Fits.{length-state}
+use Rattle.table_bytes.proofs.Trips.{state-reads-back}
+use Rattle.bellacush.specs.Slot.{wordOf, stateAfter, tableAfter, fits, run, slotWord, slotState, slotTable, slotOutput}
+use Rattle.bellacush.proofs.Trips.{word-number, word-rounds}
 use Rattle.promised.specs.Call.{Left, numberIn, roundsIn, CCall, number, Kept, onFrames, Lengths}
 use Rattle.promised.specs.Share.{holds}
 use Rattle.promised.specs.Demanded.{Served}
@@ -58,7 +61,7 @@ module _ (m : ℕ) (state : List ℕ) (d : CCall) where
   abbrev pub unchanged : ℕ → Left
   unchanged word = record { word = word; state = state; out = d .handed .out; table = d .handed .table }
 
-  abbrev changed : Left
+  abbrev pub changed : Left
   changed =
       record {
         word = wordOf answer;
@@ -73,13 +76,13 @@ module _ (m : ℕ) (state : List ℕ) (d : CCall) where
 
   right-fit : Lengths m state d → fit ≡ true
   unfolding fits
-  right-fit right = every (eq-eqb _ _ (right .seven)) (eq-eqb _ _ (right .two-each))
+  right-fit right = every (eq-eqb _ _ (right .nine)) (eq-eqb _ _ (right .two-each))
 
   fit-right : fit ≡ true → Lengths m state d
   unfolding fits
-  fit-right e = let (x, y) = both _ _ e in record { seven = eqb-true _ _ x; two-each = eqb-true _ _ y }
+  fit-right e = let (x, y) = both _ _ e in record { nine = eqb-true _ _ x; two-each = eqb-true _ _ y }
 
-  lengths? : Dec (Lengths m state d)
+  pub lengths? : Dec (Lengths m state d)
   lengths? = go fit refl
     where
       go : (b : Bool) → fit ≡ b → Dec (Lengths m state d)
@@ -94,7 +97,7 @@ module _ (m : ℕ) (state : List ℕ) (d : CCall) where
     module _ (right : Lengths m state d) where
       -- the lent bytes are the front of the state's
       same-bytes : stateOf (take (d .handed .lent) state) ≡ st
-      same-bytes = sym (front (take (d .handed .lent) state) (drop (d .handed .lent) state) (right .seven)) ∙ ap stateOf (take-append-drop (d .handed .lent) state)
+      same-bytes = sym (front (take (d .handed .lent) state) (drop (d .handed .lent) state) (right .nine)) ∙ ap stateOf (take-append-drop (d .handed .lent) state)
 
       declined : (answer .number ≡ 0 → ⊥) → d .left ≡ unchanged (answer .number)
       unfolding slotWord slotState slotTable slotOutput run stateAfter tableAfter
@@ -132,12 +135,18 @@ module _ (m : ℕ) (state : List ℕ) (d : CCall) where
         go (yes right) = right
         go (no wrong) = absurd (omega (arith, wrong-lengths wrong))
 
-    pub served-call : m ≤ mostPorts → number d ≡ 0 → Served m state d
-    served-call most served = record {
+    -- a served call leaves what the slot call on frames says
+    pub served-left : number d ≡ 0 → d .left ≡ changed
+    served-left served = let right = served-lengths served in done right (sym (number-there right) ∙ served)
+
+    -- the owners being of two bytes
+    pub served-call : m ≤ mostPorts → st .owners < 256 ^ 2 → number d ≡ 0 → Served m state d
+    unfolding advance
+    served-call most owners served = record {
       on-frames = none;
       same-state = ap (λ (l : Left). stateOf (l .state)) left
           ∙ front (stateBytes after) (drop (d .handed .lent) state) (length-state after)
-          ∙ state-reads-back after (valid-fits m most after (rw (served-advances m st (onFrames m d) none) (advance-valid m st in-order)));
+          ∙ state-reads-back after (valid-fits m most after (rw moved (advance-valid m st in-order)) (rw moved owners));
       same-table = λ i t. ap (λ (l : Left). holds (l .table) i t) left
           ∙ holds-asks (answer .sets) (λ k. lt-of-lt-of-le (row-small m most st (onFrames m d) none k) (pow-mono most)) i t;
       same-output = ap (λ (l : Left). l .out) left;
@@ -148,10 +157,13 @@ module _ (m : ℕ) (state : List ℕ) (d : CCall) where
         none = sym (number-there (served-lengths served)) ∙ served
 
         left : d .left ≡ changed
-        left = done (served-lengths served) none
+        left = served-left served
 
         after : State
         after = frames.next m st (onFrames m d)
+
+        moved : after ≡ advance st
+        moved = served-advances m st (onFrames m d) none
 
         in-order : InOrder m st
         in-order = tables.served-call m st (frames.onTables m st (onFrames m d)) (same-number m st (onFrames m d) none) .in-order

@@ -2,12 +2,13 @@
 use mathlib.Core.Path.{_≡_}
 use mathlib.Core.Bool.{Bool}
 use mathlib.Core.List.{List, _++_}
-use Prim.Native.Nat.{ℕ, _*_, _/_, _%_}
+use Prim.Native.Nat.{ℕ, _*_, _/_, _%_, _^_, _<_}
 use lib.Dec.{eqb}
 use lib.ListN.{length, take, drop}
 use Rattle.ports.specs.Modes.{modeOf}
 use Rattle.demands.specs.SlotCall.{SlotCall}
-use Rattle.bellacush.specs.Slot.{stateLen, slotWord, slotState, slotTable, slotOutput}
+use Rattle.table_bytes.specs.State.{stateLen, stateOf}
+use Rattle.bellacush.specs.Slot.{slotWord, slotState, slotTable, slotOutput}
 
 -- how many bytes of the state are lent, the slot number, the mode as a number, the block, the link word, and the bytes of the output and of the
 -- table, all of which are lent
@@ -59,6 +60,11 @@ promise m state c =
 abbrev pub Kept : ℕ → List ℕ → CCall → Type 0
 Kept m state d = d .left ≡ promise m state (d .handed)
 
+-- the same on bytes, whose owners are of sixteen bits
+pub record OnBytes (m : ℕ) (state : List ℕ) (d : CCall) : Type 0 where
+  pub kept : Kept m state d
+  pub owners : stateOf state .owners < 2 ^ 16
+
 abbrev pub next : List ℕ → CCall → List ℕ
 next state d = d .left .state
 
@@ -70,7 +76,7 @@ served state d = eqb (number d) 0
 abbrev pub onFrames : ℕ → CCall → SlotCall
 onFrames m d = let c = d .handed in record { slot = c .slot; mode = modeOf m (c .mode); block = c .block; link = c .link; out = c .out }
 
--- seven bytes of the state are lent, and two of the table for each of m sets
+-- nine bytes of the state are lent, and two of the table for each of m sets
 pub record Lengths (m : ℕ) (state : List ℕ) (d : CCall) : Type 0 where
-  pub seven : length (take (d .handed .lent) state) ≡ stateLen
+  pub nine : length (take (d .handed .lent) state) ≡ stateLen
   pub two-each : length (d .handed .table) ≡ m * 2

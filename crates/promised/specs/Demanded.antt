@@ -8,7 +8,7 @@ use Rattle.laws.specs.Sets.{asks}
 use Rattle.lcf.specs.Advance.{advance}
 use Rattle.demands.specs.SlotCall as frames
 use Rattle.demands.specs.Numbers.{Table}
-use Rattle.bellacush.specs.Slot.{stateOf}
+use Rattle.table_bytes.specs.State.{stateOf}
 use Rattle.promised.specs.Call.{CCall, number, rounds, onFrames, Lengths}
 use Rattle.promised.specs.Share.{holds}
 

@@ -6,7 +6,7 @@ use Rattle.laws.specs.Sets.{has}
 use Rattle.laws.specs.Bytes.{field}
 use Rattle.demands.specs.SlotShare.{names}
 use Rattle.demands.specs.Block.{Waits}
-use Rattle.bellacush.specs.Slot.{stateOf}
+use Rattle.table_bytes.specs.State.{stateOf}
 use Rattle.promised.specs.Call.{CCall, served}
 
 -- target t is in set i of a table's bytes, two for each set, the high one first
@@ -19,4 +19,4 @@ connects i t state d = served state d && (holds (d .left .table) i t && names (s
 
 -- the pair waits in a call
 abbrev pub Waiting : ℕ → ℕ → List ℕ → CCall → Type 0
-Waiting i t state d = Waits (stateOf state .ports) (d .handed .block) i t
+Waiting i t state d = Waits (stateOf state .ports) (stateOf state .owners) (d .handed .block) i t

@@ -1,4 +1,5 @@
--- A body for n ports, of so many slots, replayed slot by slot from the state of its ports, its I and J and its first slot.
+-- A body for n ports, of so many slots, replayed slot by slot from the state of its ports, its I and J and its first slot. A trace has no
+-- owners: its replay stands for shelves of one operator, and every port is operator 0's.
 use Prim.Native.Nat.{ℕ}
 use mathlib.Core.List.{List}
 use Rattle.laws.specs.Steps.{steps}
@@ -12,7 +13,7 @@ use Rattle.trace_parts.specs.Body.{readFields, blockPart}
 unfoldable pub startState : ℕ → ℕ → List ℕ → ℕ → State
 startState m n body first =
     let fields = readFields m n body .fields in
-    record { ports = n; initiator = record { 0 = fields .initiator }; target = record { 0 = fields .target }; due = first }
+    record { ports = n; initiator = record { 0 = fields .initiator }; target = record { 0 = fields .target }; due = first; owners = 0 }
 
 module _ (m n slots : ℕ) (body : List ℕ) where
   -- slot k at the state st: what the slot due gives on the block recorded

@@ -13,7 +13,7 @@ use ports::Stepped;
 use ports::Target;
 use table_bytes::TABLE_LEN;
 
-// The state before the first slot of a body.
+// The state before the first slot of a body: a trace has no owners, so every port is operator 0's.
 pub fn start_state(n: usize, first: u32, body: &[u8]) -> State
     ensures { λ r. ⌜ r ≡ startState mostPorts n (now (body .entry)) first ⌝ }
 {
@@ -24,6 +24,7 @@ pub fn start_state(n: usize, first: u32, body: &[u8]) -> State
         initiator: Initiator(fields.initiator),
         target: Target(fields.target),
         due: first,
+        owners: 0,
     }
 }
 

@@ -25,12 +25,12 @@ pub block-ports : (m n : ℕ) (block : List ℕ) → blockNumber m n block ≡ 0
 unfolding blockNumber
 block-ports m n block e = ltb-false m n (neither (ltb n 1) (ltb m n) (not-one (ltb n 1 || ltb m n) (differs (length block) (n * frameLen n)) e) .1)
 
-module _ (m n : ℕ) (block : List ℕ) (number : ℕ) where
-  pub declined-sets : {r : List ℕ} → number ≡ blockNumber m n block → (number ≡ 0 → ⊥) → r ≡ replicate m 0 → record { number = number; sets = r } ≡ setsAsked m n block
+module _ (m n owners : ℕ) (block : List ℕ) (number : ℕ) where
+  pub declined-sets : {r : List ℕ} → number ≡ blockNumber m n block → (number ≡ 0 → ⊥) → r ≡ replicate m 0 → record { number = number; sets = r } ≡ setsAsked m n owners block
   unfolding setsAsked
   declined-sets is some e = rw (← is, ne-eqb number 0 some, e)
 
-  pub asked-sets : (told : Told) {r : List ℕ} → number ≡ blockNumber m n block → number ≡ 0 → told ≡ toldOf n (hostsOf m n block) → r ≡ within n (told .tables .req)
-      → record { number = 0; sets = r } ≡ setsAsked m n block
+  pub asked-sets : (told : Told) {r : List ℕ} → number ≡ blockNumber m n block → number ≡ 0 → told ≡ toldOf n owners (hostsOf m n block) → r ≡ within n (told .tables .req)
+      → record { number = 0; sets = r } ≡ setsAsked m n owners block
   unfolding setsAsked toldOf tables
   asked-sets told is none is-told e = rw (← is, eq-eqb number 0 none, e ∙ ap (λ (t : Told). within n (t .tables .req)) is-told)

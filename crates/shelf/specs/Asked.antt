@@ -1,4 +1,4 @@
--- The sets asked in a slot: host heard and enabled, bit in req, below n.
+-- The sets asked in a slot: host heard and enabled, bit in req, below n and of the host's operator.
 use Prim.Native.Nat.{ℕ, _*_}
 use mathlib.Core.Bool.{_||_, cond}
 use mathlib.Core.List.{List}
@@ -18,9 +18,9 @@ blockNumber m n block =
     (cond (differs (length block) (n * frameLen n)) 6 0)
 
 -- the call: empty sets where it declines
-unfoldable pub setsAsked : ℕ → ℕ → List ℕ → Asked
-setsAsked m n block =
+unfoldable pub setsAsked : ℕ → ℕ → ℕ → List ℕ → Asked
+setsAsked m n owners block =
     let hosts = hostsOf m n block in
     cond (eqb (blockNumber m n block) 0)
-    (record { number = 0; sets = within n (counted n (hosts .heard) (hosts .ben) (hosts .req)) })
+    (record { number = 0; sets = within n (counted n owners (hosts .heard) (hosts .ben) (hosts .req)) })
     (record { number = blockNumber m n block; sets = replicate m 0 })

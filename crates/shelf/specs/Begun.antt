@@ -11,5 +11,5 @@ unfoldable pub begunOf : ℕ → State → Hosts → Begun
 begunOf m st hosts =
     record {
       heard = hosts .heard;
-      work = start (orderly m st) (counted (st .ports) (hosts .heard) (hosts .ben) (hosts .req)) (counted (st .ports) (hosts .heard) (hosts .ben) (hosts .pre));
+      work = start (orderly m st) (counted (st .ports) (st .owners) (hosts .heard) (hosts .ben) (hosts .req)) (counted (st .ports) (st .owners) (hosts .heard) (hosts .ben) (hosts .pre));
     }

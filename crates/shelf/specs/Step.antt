@@ -26,7 +26,7 @@ refusal m st slot mode block out =
 -- rules 1 and 2, then the slot on what counts of req and pre
 unfoldable pub slotOnHosts : ℕ → State → ℕ → Mode → Hosts → Stepped
 slotOnHosts m st slot mode hosts =
-    slotOnTables m st slot mode (counted (st .ports) (hosts .heard) (hosts .ben) (hosts .req)) (counted (st .ports) (hosts .heard) (hosts .ben) (hosts .pre))
+    slotOnTables m st slot mode (counted (st .ports) (st .owners) (hosts .heard) (hosts .ben) (hosts .req)) (counted (st .ports) (st .owners) (hosts .heard) (hosts .ben) (hosts .pre))
 
 -- the next state, the number, the sets and the rounds
 unfoldable pub stepped : ℕ → State → ℕ → Mode → List ℕ → List ℕ → Stepped

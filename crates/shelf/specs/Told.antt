@@ -4,5 +4,5 @@ use Rattle.hearing.specs.Heard.{tables}
 use Rattle.shelf.specs.declared.hosts.Hosts.{Hosts}
 use Rattle.shelf.specs.declared.hosts.Told.{Told}
 
-unfoldable pub toldOf : ℕ → Hosts → Told
-toldOf n hosts = record { heard = hosts .heard; tables = tables n (hosts .heard) (hosts .ben) (hosts .req) (hosts .pre) }
+unfoldable pub toldOf : ℕ → ℕ → Hosts → Told
+toldOf n owners hosts = record { heard = hosts .heard; tables = tables n owners (hosts .heard) (hosts .ben) (hosts .req) (hosts .pre) }

@@ -4,6 +4,7 @@ ghost use Rattle.frames.specs.Part.{mostPorts};
 ghost use Rattle.shelf.specs.Asked.{blockNumber, setsAsked};
 use crate::hosts::listen;
 use frames::Config;
+use ports::Set;
 use ports::State;
 use ports::Table;
 
@@ -25,9 +26,9 @@ fn block_number(n: usize, block: &[u8]) -> u8
     0
 }
 
-// For each host of n, the targets below n in its req, if it is heard and enabled.
-pub fn sets_asked(n: usize, block: &[u8]) -> Asked
-    ensures { λ r. ⌜ r ≡ setsAsked mostPorts n (now (block .entry)) ⌝ }
+// For each host of n, the targets below n and of its operator in its req, if it is heard and enabled.
+pub fn sets_asked(n: usize, owners: Set, block: &[u8]) -> Asked
+    ensures { λ r. ⌜ r ≡ setsAsked mostPorts n owners (now (block .entry)) ⌝ }
 {
     let number = block_number(n, block);
     if number != 0 {
@@ -36,7 +37,7 @@ pub fn sets_asked(n: usize, block: &[u8]) -> Asked
             sets: State::empty_table(),
         };
     }
-    let told = listen(n, block);
+    let told = listen(n, owners, block);
     let counted = told.tables;
     let req = counted.req;
     Asked {

@@ -53,7 +53,7 @@ fn begin(state: State, block: &[u8]) -> Begun
     requires { ⌜ state .ports ≤ mostPorts ⌝ }
     ensures { λ r. ⌜ r ≡ begunOf mostPorts state (hostsOf mostPorts (state .ports) (now (block .entry))) ⌝ }
 {
-    let told = listen(state.ports, block);
+    let told = listen(state.ports, state.owners, block);
     let tables = told.tables;
     let asked = tables.req;
     let claimed = tables.pre;

@@ -53,13 +53,13 @@ fn hear(ports: usize, block: &[u8]) -> Hosts
 }
 
 // What counts of req and pre (rules 1 and 2).
-fn count_hosts(ports: usize, hosts: Hosts) -> Tables
-    ensures { λ r. ⌜ r ≡ tables ports (hosts .heard) (hosts .ben) (hosts .req) (hosts .pre) ⌝ }
+fn count_hosts(ports: usize, owners: Set, hosts: Hosts) -> Tables
+    ensures { λ r. ⌜ r ≡ tables ports owners (hosts .heard) (hosts .ben) (hosts .req) (hosts .pre) ⌝ }
 {
     let ben = hosts.ben;
     let req = hosts.req;
     let pre = hosts.pre;
-    hearing::counted(ports, hosts.heard, ben, req, pre)
+    hearing::counted(ports, owners, hosts.heard, ben, req, pre)
 }
 
 // Who is heard, and what counts of req and pre.
@@ -69,13 +69,13 @@ pub struct Told {
 }
 
 // Hears and counts. The votes are gone when it returns.
-pub(crate) fn listen(ports: usize, block: &[u8]) -> Told
+pub(crate) fn listen(ports: usize, owners: Set, block: &[u8]) -> Told
     requires { ⌜ ports ≤ mostPorts ⌝ }
-    ensures { λ r. ⌜ r ≡ toldOf ports (hostsOf mostPorts ports (now (block .entry))) ⌝ }
+    ensures { λ r. ⌜ r ≡ toldOf ports owners (hostsOf mostPorts ports (now (block .entry))) ⌝ }
 {
     let hosts = hear(ports, block);
     Told {
         heard: hosts.heard,
-        tables: count_hosts(ports, hosts),
+        tables: count_hosts(ports, owners, hosts),
     }
 }

@@ -6,7 +6,7 @@ use Rattle.ports.specs.declared.state.State.{State}
 
 -- n ports at offsets (i, j)
 abbrev pub stateAt : ℕ → ℕ → ℕ → ℕ → State
-stateAt n i j due = record { ports = n; initiator = record { 0 = i }; target = record { 0 = j }; due = due }
+stateAt n i j due = record { ports = n; initiator = record { 0 = i }; target = record { 0 = j }; due = due; owners = 0 }
 
 -- m rows, the first four being the four digits of a hexadecimal number, row 0 the last
 abbrev pub rowsOf : ℕ → ℕ → List ℕ

@@ -38,6 +38,7 @@ pub fn due_at(n: usize, i: usize, j: usize, due: u32) -> State
         initiator: Initiator(i),
         target: Target(j),
         due,
+        owners: 0,
     }
 }
 

@@ -65,10 +65,18 @@ fn first(label: u64, n: usize, i: usize, j: usize, req: u16, pre: u16) {
 }
 
 fn hear(label: u64, n: usize, heard: u16, ben: u16, req: u16, pre: u16) {
-    let t = hearing::counted(n, heard, rows(ben), rows(req), rows(pre));
+    let t = hearing::counted(n, 0, heard, rows(ben), rows(req), rows(pre));
     let req = t.req;
     let pre = t.pre;
     show(label, at(n, 0, 0), SLOT, Mode::Central, req, pre);
+}
+
+// Four hosts, all heard; ports 2 and 3 are operator 1's.
+fn divided(label: u64, i: usize, ben: u16, req: u16, pre: u16) {
+    let t = hearing::counted(4, 0b1100, 0b1111, rows(ben), rows(req), rows(pre));
+    let req = t.req;
+    let pre = t.pre;
+    show(label, at(4, i, 0), SLOT, Mode::Central, req, pre);
 }
 
 fn number(label: u64, due: u32, slot: u32) {
@@ -222,6 +230,17 @@ fn diagonal() {
     first(52, 2, 0, 0, 0x20, 0x2);
 }
 
+fn operators() {
+    // Votes of the other operator's hosts do not count,
+    divided(53, 0, 0xeeff, 0x0001, 0);
+    // and those of one's own do.
+    divided(54, 0, 0xffee, 0x0001, 0);
+    // Who plans another operator's port plans nothing, and asks.
+    divided(55, 0, 0xffff, 0x0420, 0x0200);
+    // Requests for another operator's ports do not count where the fewest win.
+    divided(56, 1, 0xffff, 0x002e, 0);
+}
+
 fn main() {
     planned();
     central();
@@ -235,4 +254,5 @@ fn main() {
     limits();
     one_vote();
     diagonal();
+    operators();
 }

@@ -1,4 +1,6 @@
-// The sixteen sets as thirty-two bytes.
+// The sixteen sets as thirty-two bytes, and a state as nine.
+mod states;
+
 ghost use mathlib.Core.Path.{_≡_};
 ghost use mathlib.Core.List.{_++_};
 ghost use Prim.Native.Nat.{_≤_};
@@ -9,6 +11,9 @@ ghost use Rattle.table_bytes.specs.Table.{tableLen, tableOf, tableIn, ta
 use ports::Set;
 use ports::State;
 use ports::Table;
+pub use states::STATE_LEN;
+pub use states::state_bytes;
+pub use states::state_in;
 
 pub const TABLE_LEN: usize = State::MOST * 2;
 

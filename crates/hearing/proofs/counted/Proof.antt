@@ -8,4 +8,10 @@ pub counted-spec : {M : Type 1} → statement M
 counted-spec =
     tie.close
     (tie.spec (λ c κs. search needs) (λ c κs. search needs) (λ c κs. search needs) (λ c κs. search needs)
-    (λ c. both-counted _ _ _ _ _ (rows-counted mostPorts _ _ (c .before .before .before .before .args .heard) _ _ (c .before .before .before .before .args .req) (search needs) (search needs) (c .before .before .before .at-most .ensures) (c .before .before .present .ensures) (c .before .rows-of .ensures)) (rows-counted mostPorts _ _ (c .before .before .before .before .args .heard) _ _ (c .before .before .before .before .args .pre) (search needs) (search needs) (c .before .before .before .at-most .ensures) (c .before .before .present .ensures) (c .rows-of2 .ensures))))
+    (λ c.
+    let present = c .before .before in
+    let ports = present .before in
+    let heard = ports .before .args .heard in
+    both-counted _ _ _ _ _ _
+    (rows-counted _ heard _ (ports .before .args .req) mostPorts _ _ _ (search needs) (search needs) (ports .at-most .ensures) (present .present .ensures) (c .before .rows-of .ensures))
+    (rows-counted _ heard _ (ports .before .args .pre) mostPorts _ _ _ (search needs) (search needs) (ports .at-most .ensures) (present .present .ensures) (c .rows-of2 .ensures))))

@@ -10,14 +10,14 @@ use Rattle.hearing.proofs.present.Statement.{statement}
 use Rattle.hearing.proofs.present.Tie as tie
 
 abbrev Inv-loop : tie.InvT-loop
-Inv-loop n heard ben votes₀ h₀ votes h = (h ≤ n) × (votes ≡ voted heard ben h)
+Inv-loop n owners heard ben votes₀ h₀ votes h = (h ≤ n) × (votes ≡ voted owners heard ben h)
 
 abbrev μ-loop : tie.MeasureT-loop
-μ-loop n heard ben votes₀ h₀ votes h = n - h
+μ-loop n owners heard ben votes₀ h₀ votes h = n - h
 
 pub present-spec : {M : Type 1} → statement M
 present-spec =
     tie.close
     (tie.spec Inv-loop μ-loop (λ c. search loop) (λ c. search loop) (λ c. search loop) (λ c κs. search loop)
     (λ c. search loop) (λ c. search loop) (λ c. search loop)
-    (λ c. λ i. ap (λ (v : Votes). has (v .enabled) i) (done _ _ _ _ (c .before .loop .inv .1) (search needs) (search needs)) ∙ who _ _ _ i))
+    (λ c. λ i. ap (λ (v : Votes). has (v .enabled) i) (done _ _ _ _ (c .before .loop .inv .1) (search needs) (search needs)) ∙ who _ _ _ _ i))

@@ -14,4 +14,4 @@ bellacush-slot-spec =
     let stepped = c .before .before .before .before .before .before .before .before .before .before .before in
     let decoded = stepped .before .before .before in
     let tested = decoded .before .before in
-    ran mostPorts _ _ _ _ _ _ _ _ _ _ _ _ _ _ (tested .before .if1 .left) (tested .if2 .left) (decoded .state-of .ensures) (stepped .before .before .mode-of .ensures) (stepped .step .ensures) (c .before .before .before .before .before .before .store .ensures) (c .word-of .ensures)))
+    ran mostPorts _ _ _ _ _ _ _ _ _ _ _ _ _ _ (tested .before .if1 .left) (tested .if2 .left) (decoded .state-in .ensures) (stepped .before .before .mode-of .ensures) (stepped .step .ensures) (c .before .before .before .before .before .before .store .ensures) (c .word-of .ensures)))

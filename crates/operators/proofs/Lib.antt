@@ -1,0 +1,10 @@
+pub mod Operators
+pub mod Worked
+pub mod One
+pub mod Histories
+pub mod CCalls
+pub mod Frames
+pub mod Narrowed
+pub mod Modes
+pub mod Alike
+pub mod Agreeing

@@ -1,0 +1,3 @@
+pub mod Unaffected
+pub mod Histories
+pub mod One
