@@ -1,5 +1,5 @@
 # make            the proved library, the firmware demo and the replay of traces
-# make run        play a shelf; ARGS="ports=8 slots=640" changes it, ARGS=help explains
+# make run        play a shelf; ARGS="ports=8 slots=640" changes it, ARGS=help explains; ARGS="queues=960" plays the compact shelf
 #                 ARGS="trace=FILE" keeps its slots in a trace, and build/replay FILE prints their tables
 # make test       the gate: all proofs, then the Rust and C tests
 # make bench      measure the slot call against a plain Rust slot; BEFORE=elsewhere/libbellacush.a against that one too
@@ -22,6 +22,7 @@ LIBRARY ?= $(PROVED)
 FIRMWARE = target/staticlib/libbellacush.a
 FRAMES = target/staticlib/libframe_calls.a
 COLLECTORS = target/staticlib/libcollector_calls.a
+QUEUES = target/staticlib/libqueue_calls.a
 MEASURED = target/staticlib/libmeasured.a
 HEADER = include/bellacush.h
 SOURCES = crates.txt $(shell find crates -name '*.rt' -o -name '*.antt')
@@ -29,19 +30,19 @@ CARGO = BELLACUSH_ARCHIVE='$(abspath $(LIBRARY))' cargo
 
 .PHONY: all run test test-rust test-c bench before install clean
 
-all: $(LIBRARY) build/shelf build/replay
+all: $(LIBRARY) build/shelf build/compact build/replay
 
-# The slot call, the frame calls, the collectors' calls, and what the tests and the benchmark link besides.
-$(FIRMWARE) $(FRAMES) $(COLLECTORS) $(MEASURED): target/staticlib/lib%.a: $(SOURCES)
+# The slot call, the frame calls, the collectors' calls, the queues, and what the tests and the benchmark link besides.
+$(FIRMWARE) $(FRAMES) $(COLLECTORS) $(QUEUES) $(MEASURED): target/staticlib/lib%.a: $(SOURCES)
 	rt staticlib $*
 	@touch $@
 
 # An object of its own keeps the slot call fast and its stack low: nothing else in it calls what the slot is made of.
-$(PROVED): $(FIRMWARE) $(FRAMES) $(COLLECTORS)
+$(PROVED): $(FIRMWARE) $(FRAMES) $(COLLECTORS) $(QUEUES)
 	@mkdir -p build
-	printf 'create %s\naddlib %s\naddlib %s\naddlib %s\nsave\nend\n' $@ $^ | ar -M
+	printf 'create %s\naddlib %s\naddlib %s\naddlib %s\naddlib %s\nsave\nend\n' $@ $^ | ar -M
 
-build/shelf: firmware/shelf.c $(HEADER) $(LIBRARY)
+build/shelf build/compact: build/%: firmware/%.c $(HEADER) $(LIBRARY)
 	@mkdir -p build
 	$(CC) -std=c99 $(WARNINGS) $(CFLAGS) -Iinclude -o $@ $< $(LIBRARY)
 
@@ -54,8 +55,11 @@ build/replay: target/bin/replay
 	@mkdir -p build
 	cp $< $@
 
-run: build/shelf
-	@./build/shelf $(ARGS)
+# With queues=CELLS it is the compact shelf that plays.
+PLAYED = build/$(if $(findstring queues=,$(ARGS)),compact,shelf)
+
+run: $(PLAYED)
+	@./$(PLAYED) $(ARGS)
 
 test:
 	.ci/run
@@ -73,10 +77,11 @@ build/calls-cpp: tests/c/calls.c $(HEADER) $(LIBRARY)
 	@mkdir -p build
 	$(CXX) -std=c++11 $(WARNINGS) $(CXXFLAGS) -Iinclude -o $@ -x c++ $< -x none $(LIBRARY)
 
-test-c: build/calls-c build/calls-cpp build/shelf build/replay
+test-c: build/calls-c build/calls-cpp build/shelf build/compact build/replay
 	./build/calls-c
 	./build/calls-cpp
 	tests/c/shelf ./build/shelf
+	tests/c/compact ./build/compact
 	tests/c/replay ./build/shelf ./build/replay
 
 # An archive to compare with: only its slot call is seen, under another name, so that both fit into one program.

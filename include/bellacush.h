@@ -46,6 +46,7 @@ extern "C" {
 /* Lengths in words of 32 bits. */
 #define BELLACUSH_LEDGER_LEN 1041 /* the slots counted, four tables of counts, the sets that wait */
 #define BELLACUSH_FIGURES_LEN 5   /* the figures of one pair */
+#define BELLACUSH_RECORDS_LEN(cells) ((size_t)3 + (cells)) /* the queues' records of so many cells */
 #define BELLACUSH_HEAD_WORDS 2    /* what is shown of a trace */
 #define BELLACUSH_BODY_WORDS 4    /* what is shown of one of its bodies */
 
@@ -56,6 +57,10 @@ extern "C" {
 #define BELLACUSH_HEAD_LEN 3
 #define BELLACUSH_CONTENTS_LEN(count) ((size_t)5 + (size_t)10 * (count))
 #define BELLACUSH_BODY_LEN(n, slots) ((size_t)5 + BELLACUSH_BLOCK_LEN(n) * (slots))
+
+/* The queues: the bytes of a cell, and how many cells a pool has at most. */
+#define BELLACUSH_CELL_LEN 64
+#define BELLACUSH_MOST_CELLS 960
 
 /* Modes: central, the distributed form with a limit of 1 to 16 rounds, or diagonal first. */
 #define BELLACUSH_CENTRAL 0
@@ -99,12 +104,13 @@ enum bellacush_number {
     BELLACUSH_BAD_LIMIT = 5,        /* distributed round limit outside 1 to 16: a mode
                                        from 18 on */
     BELLACUSH_BAD_BLOCK_LEN = 6,    /* block length other than 11 n */
-    BELLACUSH_OUT_TOO_SHORT = 7,    /* output below 7 n for a slot, 11 or 7 for one frame; for a
+    BELLACUSH_OUT_TOO_SHORT = 7,    /* output below 7 n for a slot, 64 n for one of the queues,
+                                       11 or 7 for one frame; for a
                                        trace or body, below its length; for tables, below 32
                                        for each slot */
     BELLACUSH_BAD_LEN = 8,          /* a state, table, frame, part, ledger, figures, operator
-                                       numbers, or words to show of a trace or body, of another
-                                       length */
+                                       numbers, cell, records of new queues, or words to show of
+                                       a trace or body, of another length */
     BELLACUSH_BAD_TYPE = 9,         /* frame type other than asked for */
     BELLACUSH_BAD_CHECK = 10,       /* the frame's check differs */
     BELLACUSH_BAD_GRANT_FIELD = 11, /* bits 3 to 7 of the flags set, nodeId above 15, gntVal
@@ -114,7 +120,11 @@ enum bellacush_number {
                                        ledger is above its slots counted */
     BELLACUSH_BAD_TRACE = 14,       /* anything that departs from the layout of a trace, or a
                                        body number at or above the count */
-    BELLACUSH_BAD_OPERATOR = 15     /* an operator number above 1 on a port below n */
+    BELLACUSH_BAD_OPERATOR = 15,    /* an operator number above 1 on a port below n */
+    BELLACUSH_QUEUES_FULL = 16,     /* every cell of the pool holds a queued cell */
+    BELLACUSH_BAD_QUEUES = 17       /* initiator or target at or above n, a pool of other than 1
+                                       to 960 whole cells or than the queues were made for, or
+                                       records out of order or of another number of ports */
 };
 
 /* What bellacush_slot returns, taken apart: the number, and the rounds that were run. */
@@ -469,6 +479,58 @@ uint32_t bellacush_write_config(uint16_t req, uint16_t pre, uint16_t ben, uint16
 uint32_t bellacush_write_grant3(uint32_t node_id, uint32_t gnt_val, uint32_t link_err,
                                 uint32_t crc_err, uint16_t set,
                                 uint8_t *out, size_t out_len);
+
+/*
+ * The compact shelf: first-in first-out queues of 64-byte cells, one for each pair, for a product
+ * without queue hardware. The cells lie in a pool and the queues in records, both lent by the
+ * caller; a slot asks for what the queues hold, plans nothing and disables nobody.
+ *
+ * records  BELLACUSH_RECORDS_LEN(cells) words: the ports, the cells of the pool, how many of them
+ *          are held, then an entry for each cell of the pool, (cell 16 + initiator) 16 + target:
+ *          those held in the order of their arrival, behind them the free ones. They are in order
+ *          if these numbers are as said, every cell of the pool has one entry, and every entry is
+ *          of a pair of the shelf. Every call tests it; new queues, and what every call leaves of
+ *          queues in order, are in order. Zeros are not.
+ * pool     64 bytes for each cell.
+ *
+ * A call that declines changes nothing: records, pool, state, output and table keep every byte.
+ */
+
+/*
+ * Makes empty queues for n ports in records, for a pool of pool_len bytes.
+ * Tested in order: 8 (records other than 3 + pool_len / 64 words), 1, 17 (pool_len other than 1 to
+ * 960 whole cells).
+ */
+uint32_t bellacush_new_queues(uint32_t *records, size_t records_len, uint32_t n, size_t pool_len);
+
+/*
+ * Adds a cell to the end of the queue of (initiator, target).
+ * Tested in order: 8 (cell other than 64 bytes), 1 (the records' ports), 17, 16 (exactly when every
+ * cell of the pool is held: the room of a forwarded cell is used again).
+ */
+uint32_t bellacush_add_cell(uint32_t *records, size_t records_len, uint32_t initiator,
+                            uint32_t target, const uint8_t *cell, size_t cell_len, uint8_t *pool,
+                            size_t pool_len);
+
+/*
+ * Serves one slot of the queues: a pair asks if its queue holds a cell. The head of each granted
+ * queue is removed, and target t's cell goes to byte 64 t of out; other bytes of out are not
+ * touched, nor is the pool. State, slot, mode and table are those of bellacush_slot, and so is the
+ * word returned. A cell at the head of a queue is forwarded within n^2 served slots.
+ * Tested in order: 8 (state, table), 17, 1, 2, 3, 4, 5, 7 (out below 64 n).
+ */
+uint32_t bellacush_queue_slot(uint8_t *state, size_t state_len, uint32_t slot, uint32_t mode,
+                              uint32_t *records, size_t records_len, const uint8_t *pool,
+                              size_t pool_len, uint8_t *out, size_t out_len, uint8_t *table,
+                              size_t table_len);
+
+/*
+ * How many cells the queue of (initiator, target) holds: BELLACUSH_NUMBER of the word is the number,
+ * BELLACUSH_CELLS of it the cells, 0 if it declines. Tested in order: 1 (the records' ports), 17.
+ */
+uint32_t bellacush_count_cells(const uint32_t *records, size_t records_len, uint32_t initiator,
+                               uint32_t target);
+#define BELLACUSH_CELLS(word) ((uint32_t)(word) / 256u)
 
 #ifdef __cplusplus
 }

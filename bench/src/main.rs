@@ -9,8 +9,10 @@ mod long_checks;
 mod plain;
 mod plain_check;
 mod plain_ledger;
+mod plain_queues;
 #[cfg(plain_rule)]
 mod plain_rule;
+mod queues;
 mod replays;
 mod stack;
 mod timing;
@@ -52,6 +54,7 @@ fn main() {
     long_checks::section();
     growth();
     feeds::section();
+    queues::section();
     replays::section();
     central::section();
     #[cfg(plain_rule)]

@@ -115,32 +115,47 @@ pub fn slot_by(
     }
     let owners = u16::from_be_bytes([state[7], state[8]]);
     let (mut work, quiet) = begin(at, owners, block);
-    let rounds = match mode {
+    let rounds = serve(central, at, mode, &mut work);
+    write_grants(at.n, &work.held, link, quiet, out);
+    put_table(&work.held, table);
+    advance(state, at, due);
+    rounds * 256
+}
+
+/// What a mode joins; gives the rounds.
+#[inline(always)]
+pub fn serve(central: impl Fn(Place, &mut Work), at: Place, mode: u32, work: &mut Work) -> u32 {
+    match mode {
         0 => {
-            central(at, &mut work);
+            central(at, work);
             0
         }
         DIAGONAL => {
-            diagonal(at, &mut work);
-            central(at, &mut work);
+            diagonal(at, work);
+            central(at, work);
             0
         }
-        limit => distributed(at, limit, &mut work),
-    };
-    write_grants(at.n, &work.held, link, quiet, out);
-    put_table(&work.held, table);
+        limit => distributed(at, limit, work),
+    }
+}
+
+pub fn advance(state: &mut [u8], at: Place, due: u32) {
     state[1] = at.next(at.i) as u8;
     if state[1] == 0 {
         state[2] = at.next(at.j) as u8;
     }
     state[3..7].copy_from_slice(&due.wrapping_add(1).to_be_bytes());
-    rounds * 256
 }
 
 pub fn put_table(sets: &Rows, table: &mut [u8]) {
     for (bytes, set) in table.chunks_exact_mut(2).zip(sets) {
         bytes.copy_from_slice(&set.to_be_bytes());
     }
+}
+
+/// The numbers 1 to 5.
+pub fn due_refusal(at: Place, due: u32, slot: u32, mode: u32) -> u32 {
+    refusal(at, due, slot, mode, CONFIG_LEN * at.n, GRANT_LEN * at.n)
 }
 
 fn refusal(at: Place, due: u32, slot: u32, mode: u32, block_len: usize, out_len: usize) -> u32 {

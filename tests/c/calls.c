@@ -608,6 +608,95 @@ static void what_is_no_trace_is_not_written(void)
     CHECK(memcmp(out, r.file, sizeof out) == 0);
 }
 
+/* Two ports and three cells, with what a call may change and a copy as it was before. */
+struct compact {
+    uint8_t state[BELLACUSH_STATE_LEN];
+    uint32_t records[BELLACUSH_RECORDS_LEN(3)];
+    uint8_t pool[3 * BELLACUSH_CELL_LEN];
+    uint8_t out[2 * BELLACUSH_CELL_LEN + 1];
+    uint8_t table[BELLACUSH_TABLE_LEN];
+};
+
+static struct compact compact_shelf(void)
+{
+    static const uint8_t one_operator[BELLACUSH_MOST_PORTS] = {0};
+    struct compact shelf;
+
+    memset(&shelf, 0xB7, sizeof shelf);
+    CHECK(bellacush_fresh(2, 5, one_operator, sizeof one_operator, shelf.state,
+                          sizeof shelf.state) == BELLACUSH_DONE);
+    CHECK(bellacush_new_queues(shelf.records, 6, 2, sizeof shelf.pool) == BELLACUSH_DONE);
+    return shelf;
+}
+
+static uint32_t add(struct compact *shelf, uint32_t initiator, uint32_t target, int value)
+{
+    uint8_t cell[BELLACUSH_CELL_LEN];
+
+    memset(cell, value, sizeof cell);
+    return bellacush_add_cell(shelf->records, 6, initiator, target, cell, sizeof cell,
+                              shelf->pool, sizeof shelf->pool);
+}
+
+static uint32_t forward(struct compact *shelf, uint32_t slot_number)
+{
+    return bellacush_queue_slot(shelf->state, sizeof shelf->state, slot_number, BELLACUSH_CENTRAL,
+                                shelf->records, 6, shelf->pool, sizeof shelf->pool, shelf->out,
+                                sizeof shelf->out, shelf->table, sizeof shelf->table);
+}
+
+static void queues_are_first_in_first_out(void)
+{
+    struct compact shelf = compact_shelf();
+
+    CHECK(shelf.records[0] == 2 && shelf.records[1] == 3 && shelf.records[2] == 0);
+    CHECK(add(&shelf, 1, 0, 11) == BELLACUSH_DONE);
+    CHECK(add(&shelf, 1, 0, 12) == BELLACUSH_DONE);
+    CHECK(add(&shelf, 0, 0, 13) == BELLACUSH_DONE);
+    CHECK(add(&shelf, 0, 1, 14) == BELLACUSH_QUEUES_FULL);
+    CHECK(bellacush_count_cells(shelf.records, 6, 1, 0) == 2 * 256u);
+    CHECK(BELLACUSH_CELLS(bellacush_count_cells(shelf.records, 6, 0, 1)) == 0);
+    CHECK(forward(&shelf, 5) == BELLACUSH_DONE);
+    CHECK(shelf.out[0] == 13 && shelf.out[63] == 13 && shelf.out[64] == 0xB7);
+    CHECK(forward(&shelf, 6) == BELLACUSH_DONE);
+    CHECK(shelf.out[0] == 11 && shelf.out[64] == 0xB7);
+    CHECK(add(&shelf, 0, 1, 15) == BELLACUSH_DONE);
+    CHECK(forward(&shelf, 7) == BELLACUSH_DONE);
+    CHECK(shelf.out[0] == 12 && shelf.out[64] == 15 && shelf.out[127] == 15);
+    CHECK(shelf.out[128] == 0xB7 && shelf.records[2] == 0);
+}
+
+static void queues_that_are_refused_stay(void)
+{
+    struct compact shelf = compact_shelf(), kept;
+    uint32_t none[6] = {0, 0, 0, 0, 0, 0};
+
+    CHECK(add(&shelf, 1, 1, 1) == BELLACUSH_DONE);
+    kept = shelf;
+    CHECK(add(&shelf, 2, 0, 1) == BELLACUSH_BAD_QUEUES);
+    CHECK(add(&shelf, 0, 2, 1) == BELLACUSH_BAD_QUEUES);
+    CHECK(forward(&shelf, 4) == BELLACUSH_SLOT_STALE);
+    CHECK(forward(&shelf, 6) == BELLACUSH_SLOT_EARLY);
+    CHECK(bellacush_queue_slot(shelf.state, sizeof shelf.state, 5, 0, shelf.records, 6, shelf.pool,
+                               sizeof shelf.pool, shelf.out, 127, shelf.table,
+                               sizeof shelf.table) == BELLACUSH_OUT_TOO_SHORT);
+    CHECK(bellacush_queue_slot(shelf.state, sizeof shelf.state, 5, 0, shelf.records, 6, shelf.pool,
+                               sizeof shelf.pool - 1, shelf.out, sizeof shelf.out, shelf.table,
+                               sizeof shelf.table) == BELLACUSH_BAD_QUEUES);
+    CHECK(bellacush_new_queues(shelf.records, 6, 0, sizeof shelf.pool) == BELLACUSH_BAD_PORTS);
+    CHECK(bellacush_new_queues(shelf.records, 5, 2, sizeof shelf.pool) == BELLACUSH_BAD_LEN);
+    CHECK(bellacush_new_queues(shelf.records, 6, 2, 193) == BELLACUSH_BAD_QUEUES);
+    CHECK(memcmp(&shelf, &kept, sizeof shelf) == 0);
+    CHECK(bellacush_count_cells(none, 6, 0, 0) == BELLACUSH_BAD_PORTS);
+    none[0] = 2;
+    CHECK(bellacush_count_cells(none, 6, 0, 0) == BELLACUSH_BAD_QUEUES);
+    shelf.records[4] = shelf.records[5];
+    kept = shelf;
+    CHECK(add(&shelf, 0, 0, 1) == BELLACUSH_BAD_QUEUES);
+    CHECK(forward(&shelf, 5) == BELLACUSH_BAD_QUEUES);
+    CHECK(memcmp(&shelf, &kept, sizeof shelf) == 0);
+}
+
 int main(void)
 {
     constants_are_the_documents();
@@ -633,6 +722,8 @@ int main(void)
     what_is_no_body_is_not_replayed();
     what_is_no_body_is_not_sealed();
     what_is_no_trace_is_not_written();
+    queues_are_first_in_first_out();
+    queues_that_are_refused_stay();
     printf("%u passed, %u failed\n", passed, failed);
     return failed == 0 ? 0 : 1;
 }

@@ -7,6 +7,7 @@ pub mod ledger;
 pub mod lent;
 pub mod measured;
 pub mod promises;
+pub mod queues;
 pub mod random;
 pub mod scheduler;
 pub mod slots;

@@ -1,0 +1,6 @@
+pub mod Lists
+pub mod Meeting
+pub mod Cells
+pub mod Heads
+pub mod Ordered
+pub mod Pools

@@ -1,0 +1,6 @@
+pub mod Entries
+pub mod Records
+pub mod Queue
+pub mod Order
+pub mod Marks
+pub mod Making

@@ -1,0 +1,3 @@
+pub mod Shelf
+pub mod History
+pub mod Totals

@@ -1,0 +1,4 @@
+pub mod Partings
+pub mod Grants
+pub mod Moves
+pub mod Serves
