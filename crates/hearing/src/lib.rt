@@ -92,9 +92,9 @@ fn row_of(owners: Set, present: Set, row: Set, i: usize) -> Set
     }
 }
 
-fn rows_of(n: usize, owners: Set, present: Set, rows: Table) -> Table
+fn rows_of(n: usize, owners: Set, present: Set, rows: &Table) -> Table
     requires { ⌜ n ≤ mostPorts ⌝ }
-    ensures { λ r. ⌜ r ≡ tabled mostPorts (λ i. cond (has present i) (among owners i (getD rows i 0)) 0) n ⌝ }
+    ensures { λ r. ⌜ r ≡ tabled mostPorts (λ i. cond (has present i) (among owners i (getD (now (rows .entry)) i 0)) 0) n ⌝ }
 {
     let mut table = State::empty_table();
     for i in 0..n {
@@ -110,7 +110,7 @@ pub fn counted(ports: usize, owners: Set, heard: Set, ben: Table, req: Table, pr
     let n = at_most(ports);
     let present = present(n, owners, heard, ben);
     Tables {
-        req: rows_of(n, owners, present, req),
-        pre: rows_of(n, owners, present, pre),
+        req: rows_of(n, owners, present, &req),
+        pre: rows_of(n, owners, present, &pre),
     }
 }

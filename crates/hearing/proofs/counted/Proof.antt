@@ -9,9 +9,11 @@ counted-spec =
     tie.close
     (tie.spec (λ c κs. search needs) (λ c κs. search needs) (λ c κs. search needs) (λ c κs. search needs)
     (λ c.
-    let present = c .before .before in
+    let first = c .before .before in
+    let present = first .before .before in
     let ports = present .before in
     let heard = ports .before .args .heard in
+    let good = ports .before .good in
     both-counted _ _ _ _ _ _
-    (rows-counted _ heard _ (ports .before .args .req) mostPorts _ _ _ (search needs) (search needs) (ports .at-most .ensures) (present .present .ensures) (c .before .rows-of .ensures))
-    (rows-counted _ heard _ (ports .before .args .pre) mostPorts _ _ _ (search needs) (search needs) (ports .at-most .ensures) (present .present .ensures) (c .rows-of2 .ensures))))
+    (rows-counted _ heard _ _ mostPorts _ _ _ (search needs) (good .1 .1 .1 .1 .0 .1 .0 .1) (ports .at-most .ensures) (present .present .ensures) (first .rows-of .ensures))
+    (rows-counted _ heard _ _ mostPorts _ _ _ (search needs) (good .1 .1 .1 .1 .1 .0 .1 .0 .1) (ports .at-most .ensures) (present .present .ensures) (c .rows-of2 .ensures))))
