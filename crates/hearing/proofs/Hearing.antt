@@ -7,7 +7,7 @@ use native.Mathlib.Nat.{lt-of-le-of-lt}
 use native.Mathlib.Decide.{ℕ-discrete}
 use native.Mathlib.Omega.{arith}
 use borrow.Author.Tests.{leb-true, leb-false, le-ltb}
-use lib.Bits.{bitAnd, bitOr}
+use lib.Bits.{bitAnd}
 use lib.Dec.{eqb, ltb, leb, eqb·suc-zero}
 use lib.ListN.{length, getD}
 use lib.Seq.{set-out}

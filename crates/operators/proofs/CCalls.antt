@@ -1,6 +1,5 @@
 -- C calls: the word, the state's bytes, and the bytes of the output and of the table that an operator sees.
 use mathlib.Core.Path.{_≡_, refl, sym, ap, _∙_}
-use mathlib.Core.Bool.{true}
 use mathlib.Core.List.{List, []}
 use Prim.Native.Nat.{ℕ, _*_, _≤_, _<_}
 use native.Mathlib.Nat.{mul-le-mul-right}
@@ -8,7 +7,7 @@ use native.Mathlib.Decide.{decLt, ℕ-discrete}
 use native.Mathlib.Omega.{arith}
 use lib.ListN.{length, getD, take, drop, drop-of-length-le}
 use Rattle.laws.specs.Bytes.{bigEndian, row}
-use Rattle.laws.specs.Parts.{part, parts}
+use Rattle.laws.specs.Parts.{part}
 use Rattle.laws.proofs.Bytes.{length-big}
 use Rattle.laws.proofs.Parts.{length-parts, part-at}
 use Rattle.frames.specs.Part.{mostPorts}
@@ -16,11 +15,11 @@ use Rattle.ports.specs.Modes.{modeOf}
 use Rattle.ports.specs.Owners.{of}
 use Rattle.ports.specs.declared.state.State.{State}
 use Rattle.demands.specs.SlotCall as frames
-use Rattle.table_bytes.specs.State.{stateOf, stateBytes}
-use Rattle.promised.specs.Call.{Left, numberIn, CCall, number, Kept, onFrames, Lengths}
+use Rattle.table_bytes.specs.State.{stateOf}
+use Rattle.promised.specs.Call.{CCall, number, Kept, onFrames, Lengths}
 use Rattle.promised.proofs.Calls.{lengths?, number-there, wrong-lengths, declined-keeps, served-left}
 use Rattle.operators.specs.Unaffected.{SameToIt, Unaffected}
-use Rattle.operators.specs.Histories.{CSame, CSent, CSeen}
+use Rattle.operators.specs.Histories.{CSent, CSeen}
 use Rattle.operators.proofs.Frames.{non-interference, same-output}
 
 -- the bytes of one set, of two rows of sets that agree there

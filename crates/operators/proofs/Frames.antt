@@ -5,15 +5,12 @@ use mathlib.Core.List.{List}
 use Prim.Native.Nat.{ℕ, _≤_, _<_}
 use native.Mathlib.Decide.{ℕ-discrete}
 use lib.Dec.{eqb}
-use lib.ListN.{length, getD}
+use lib.ListN.{getD}
 use Rattle.laws.specs.Sets.{has, tabled}
 use Rattle.laws.proofs.Rows.{length-tabled}
 use Rattle.frames.specs.Frame.{Answer}
-use Rattle.frames.specs.Width.{setBytes}
-use Rattle.frames.specs.Held.{heldFrame}
 use Rattle.frames.specs.Part.{mostPorts, hostNumber}
 use Rattle.frames.specs.declared.config.Config.{Config}
-use Rattle.frames.specs.declared.held.Held.{Held}
 use Rattle.ports.specs.Owners.{of}
 use Rattle.ports.specs.Due.{declined}
 use Rattle.ports.specs.declared.state.State.{State}

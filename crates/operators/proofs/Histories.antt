@@ -1,6 +1,5 @@
 -- Two histories in which an operator's hosts send the same are the same to it: slot calls on frames, the card's lent calls, and C calls.
 use mathlib.Core.Path.{_≡_, refl, sym, ap, subst, _∙_}
-use mathlib.Core.Bool.{Bool, true}
 use mathlib.Core.List.{List, [], _∷_}
 use Prim.Native.Nat.{ℕ, _≤_}
 use lib.ListN.{getD}
@@ -12,7 +11,7 @@ use Rattle.demands.specs.SlotCall as slots
 use Rattle.demands.specs.LentCall as lent
 use Rattle.demands.proofs.Turns.{by-value}
 use Rattle.promised.specs.Call as c
-use Rattle.operators.specs.Unaffected.{Sent, Seen, SeenAlike}
+use Rattle.operators.specs.Unaffected.{Sent, Seen}
 use Rattle.operators.specs.Histories.{InBoth, Same, Given, LentSent, LentSeen, CSent, CSeen}
 use Rattle.operators.proofs.Frames.{non-interference, same-output}
 use Rattle.operators.proofs.CCalls.{c-seen}

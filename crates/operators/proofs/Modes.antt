@@ -15,7 +15,7 @@ use Rattle.ports.specs.Due.{dueNumber, declined}
 use Rattle.ports.specs.declared.state.State.{State}
 use Rattle.ports.specs.declared.state.Mode.{Mode}
 use Rattle.ports.specs.declared.state.Mode.the-variants.{Central, Distributed, Diagonal}
-use Rattle.choices.specs.Choice.{place, fewest}
+use Rattle.choices.specs.Choice.{fewest}
 use Rattle.choices.specs.Join.{joinLive}
 use Rattle.planned.specs.Planned.{planner, give, planned, start}
 use Rattle.central.specs.Central.{winner, serve, central}

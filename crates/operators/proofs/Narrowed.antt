@@ -1,12 +1,12 @@
 -- What counts under owners: nothing goes from one operator's port to another's, and a host's row depends on its own operator's hosts alone.
 use mathlib.Core.Path.{_≡_, refl, sym, ap, _∙_}
-use mathlib.Core.Bool.{Bool, true, false, not, _&&_, cond}
+use mathlib.Core.Bool.{Bool, true, _&&_}
 use mathlib.Core.List.{List}
 use Prim.Native.Nat.{ℕ, _<_}
 use native.Mathlib.Decide.{ℕ-discrete}
 use lib.Dec.{eqb, ltb}
 use lib.ListN.{length, getD}
-use Rattle.laws.specs.Sets.{has, asks}
+use Rattle.laws.specs.Sets.{has}
 use Rattle.laws.proofs.Loops.{same-steps}
 use Rattle.laws.proofs.Rows.{length-tabled}
 use Rattle.laws.proofs.Tests.{refuted}

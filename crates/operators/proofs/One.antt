@@ -1,25 +1,24 @@
 -- With every port given to one operator nothing changes: the slot and the sets asked are those of a shelf without owners, for all inputs.
 use mathlib.Core.Path.{_≡_, refl, sym, ap, ap₂, _∙_}
-use mathlib.Core.Bool.{Bool, true, false, not, _&&_, cond}
+use mathlib.Core.Bool.{Bool, true, false, _&&_, cond}
 use mathlib.Core.List.{List}
-use Prim.Native.Nat.{ℕ, zero, suc, _+_, _*_, _%_, _^_, _≤_, _<_}
+use Prim.Native.Nat.{ℕ, zero, suc, _+_, _*_, _%_, _^_, _<_}
 use native.Mathlib.Nat.{mod-one}
 use native.Mathlib.Decide.{decLt}
 use native.Mathlib.Omega.{arith}
-use lib.Dec.{eqb, ltb}
+use lib.Dec.{ltb}
 use lib.ListN.{length, getD, set, List·getD-eq-default}
 use lib.Pow.{mod-pow-add}
 use borrow.Author.Tests.{eqb-true, eqb-false}
-use Rattle.laws.specs.Sets.{digit, has, asks, tally, tabled}
+use Rattle.laws.specs.Sets.{digit, has, tabled}
 use Rattle.laws.proofs.Loops.{same-steps}
 use Rattle.laws.proofs.Rows.{length-tabled, row-tabled}
-use Rattle.laws.proofs.Steps.{upto}
-use Rattle.ports.specs.Owners.{operator, among}
+use Rattle.ports.specs.Owners.{among}
 use Rattle.ports.specs.Tables.{within}
 use Rattle.ports.specs.declared.state.State.{State}
 use Rattle.ports.specs.declared.state.Mode.{Mode}
 use Rattle.ports.proofs.Owners.{no-owners, has-among}
-use Rattle.hearing.specs.Heard.{clears, present, counted}
+use Rattle.hearing.specs.Heard.{present, counted}
 use Rattle.planned.specs.Planned.{start}
 use Rattle.lcf.specs.Slot.{matched, slotOnTables}
 use Rattle.shelf.specs.Asked.{setsAsked}

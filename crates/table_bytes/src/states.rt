@@ -2,7 +2,6 @@
 ghost use mathlib.Core.Path.{_≡_};
 ghost use Prim.Native.Nat.{_%_, _≤_};
 ghost use lib.ListN.{length};
-ghost use Rattle.ports.specs.Ready.{atFirst};
 ghost use Rattle.table_bytes.specs.State.{stateLen, stateOf, stateIn, stateBytes};
 use ports::Initiator;
 use ports::State;
