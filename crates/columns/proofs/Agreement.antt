@@ -1,16 +1,16 @@
 -- The rule over columns agrees with the plain one, target by target.
-use mathlib.Core.Path.{_≡_, refl, sym, ap, ap₂, _∙_}
-use mathlib.Core.Logic.{_⊎_, inl, inr, ⊎-elim, _≢_}
+use mathlib.Core.Path.{_≡_, refl, sym, ap, _∙_}
+use mathlib.Core.Logic.{_⊎_, inl, inr, _≢_}
 use mathlib.Core.Bool.{Bool, true, false, not, _&&_, _||_, cond, true≢false}
 use mathlib.Core.List.{List, map}
-use Prim.Native.Nat.{ℕ, zero, suc, _+_, _-_, _*_, _%_, _^_, _≤_, _<_}
+use Prim.Native.Nat.{ℕ, zero, suc, _+_, _-_, _%_, _^_, _≤_, _<_}
 use native.Mathlib.Nat.{mod-lt, mod-eq-of-lt, zero-div, zero-sub, lt-of-le-of-lt}
 use native.Mathlib.Decide.{decLt, ℕ-discrete}
 use native.Mathlib.Numerals.{add-one}
 use native.Mathlib.Omega.{arith}
-use lib.Bits.{bitAnd, and-le-r}
+use lib.Bits.{and-le-r}
 use lib.Count.{ones, onesIn, ones-le, ones-cat}
-use lib.Dec.{eqb, ltb, lit<}
+use lib.Dec.{eqb}
 use lib.Pow.{pow-pos, mod-pow-add}
 use lib.ListN.{getD, set, List·getD-map}
 use lib.Seq.{getD-set-other, set-getD}
@@ -20,16 +20,16 @@ use Rattle.laws.specs.Sets as sets
 use Rattle.laws.specs.Sets.{digit, has, asks, with, without, sizes}
 use Rattle.laws.proofs.Words.{has-and}
 use Rattle.laws.proofs.Members.{has-none, has-without, has-gathered, row-emptied}
-use Rattle.laws.proofs.Tests.{both, every, either, neither, arms, refuted}
+use Rattle.laws.proofs.Tests.{both, arms}
 use Rattle.ports.specs.Ready.{Ready}
-use Rattle.choices.specs.Choice.{place, choice, fewest}
+use Rattle.choices.specs.Choice.{place, fewest}
 use Rattle.choices.specs.Join.{join, joinLive}
 use Rattle.choices.proofs.Ports.{choice-below}
 use Rattle.central.specs.Central as plain
 use Rattle.ports.specs.declared.state.State.{State}
 use Rattle.choices.specs.declared.work.Work.{Work}
 use Rattle.columns.specs.Transpose.{columns, column}
-use Rattle.columns.specs.Planes.{value, digits, more, less, least, winner}
+use Rattle.columns.specs.Planes.{value, digits, less, least, winner}
 use Rattle.columns.specs.Serving.{no-planes, counted, target, favoured, among, won, serve, InRange}
 use Rattle.columns.specs.declared.serving.Board.{Board}
 use Rattle.columns.specs.declared.serving.Served.{Served}

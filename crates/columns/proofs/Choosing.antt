@@ -1,14 +1,13 @@
 -- When a number is the choice of rule 5: nobody before it in the rotation has as low a number, and nobody after it has a lower one.
 use mathlib.Core.Path.{_≡_, refl, sym, ap, _∙_}
-use mathlib.Core.Bool.{Bool, true, false, not, _&&_, _||_, cond, true≢false}
-use Prim.Native.Nat.{ℕ, zero, suc, _+_, _-_, _%_, _≤_, _<_}
-use native.Mathlib.Nat.{add-mod-right, add-zero, add-suc, mod-eq-of-lt}
-use native.Mathlib.Decide.{decLe, decLt}
+use mathlib.Core.Bool.{Bool, true, false, not, _&&_, _||_}
+use Prim.Native.Nat.{ℕ, zero, suc, _+_, _-_, _≤_, _<_}
+use native.Mathlib.Nat.{add-zero, add-suc}
 use native.Mathlib.Omega.{arith}
 use lib.Dec.{ltb}
 use borrow.Author.Tests.{lt-ltb, le-ltb}
 use Rattle.laws.specs.Steps.{steps}
-use Rattle.laws.proofs.Tests.{arms, both}
+use Rattle.laws.proofs.Tests.{arms}
 use Rattle.choices.specs.Choice.{place, better, chosen, choice}
 
 module _ (p : ℕ → Bool) (f : ℕ → ℕ) (n a : ℕ) (c turn : ℕ) (at : place n a turn ≡ c) (asks : p c ≡ true)

@@ -6,13 +6,13 @@ use Prim.Native.Nat.{ℕ, zero, suc, _+_, _-_, _*_, _/_, _%_, _^_, _≤_, _<_}
 use native.Mathlib.Nat.{mod-lt, mod-eq-of-lt, add-zero}
 use native.Mathlib.Decide.{decLt}
 use native.Mathlib.Omega.{arith}
-use lib.Bits.{bitAnd, bitOr}
+use lib.Bits.{bitAnd}
 use lib.Dec.{eqb, leb}
 use lib.ListN.{getD}
 use lib.Pow.{pow-pos}
 use borrow.Author.Tests.{eqb-true, leb-true, le-leb, lt-leb}
 use Rattle.laws.specs.Sets.{digit, has, asks}
-use Rattle.laws.proofs.Words.{has-and, digit-shift, digit-low, digit-high, digit-past}
+use Rattle.laws.proofs.Words.{has-and, digit-shift, digit-low, digit-high}
 use Rattle.laws.proofs.Members.{has-none, has-below}
 use Rattle.laws.proofs.Steps.{upto}
 use Rattle.laws.proofs.Tests.{both}

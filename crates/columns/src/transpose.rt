@@ -3,9 +3,7 @@ use ports::Set;
 use ports::State;
 use ports::Table;
 ghost use mathlib.Core.Path.{_≡_};
-ghost use mathlib.Core.List.{List, [], _∷_};
 ghost use Prim.Native.Nat.{_%_, _^_, _<_};
-ghost use lib.ListN.{getD};
 ghost use Rattle.columns.specs.Transpose.{up, down, four, near, transposed, part, columns, column};
 
 // Digits of x, and digits of y from s places below.

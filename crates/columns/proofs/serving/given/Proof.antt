@@ -1,5 +1,4 @@
 use borrow.Author.Needs.{needs}
-use Rattle.laws.proofs.Branches.{branch}
 use Rattle.laws.proofs.Words.{or-puts}
 use Rattle.columns.proofs.serving.given.Statement.{statement}
 use Rattle.columns.proofs.serving.given.Tie as tie

@@ -1,5 +1,4 @@
 use borrow.Author.Needs.{needs}
-use Prim.Native.Nat.{_<_}
 use native.Mathlib.Omega.{arith}
 use Rattle.columns.specs.Serving.{serve}
 use Rattle.columns.proofs.serving.serve.Statement.{statement}
