@@ -13,7 +13,8 @@
  *    or uint16_t, as many words of that type, aligned as it asks. A null pointer is not to be
  *    lent with a length other than 0.
  *  - Nothing that a call may write (state, out, table, tables, part, ledger of a feed, figures,
- *    shown, place) overlaps anything else that is lent to the same call.
+ *    shown, place, records but of a count, pool of an add) overlaps anything else that is lent
+ *    to the same call.
  *  - No other thread touches what is lent before the call returns. Calls on separate memory
  *    may run at the same time.
  * Nothing else is asked: any lengths, bytes, words and numbers are answered as said below.
@@ -127,7 +128,8 @@ enum bellacush_number {
                                        records out of order or of another number of ports */
 };
 
-/* What bellacush_slot returns, taken apart: the number, and the rounds that were run. */
+/* What bellacush_slot and bellacush_queue_slot return, taken apart: the number, and the rounds
+   that were run. */
 #define BELLACUSH_NUMBER(word) ((uint32_t)(word) % 256u)
 #define BELLACUSH_ROUNDS(word) ((uint32_t)(word) / 256u)
 
@@ -489,11 +491,12 @@ uint32_t bellacush_write_grant3(uint32_t node_id, uint32_t gnt_val, uint32_t lin
  *          are held, then an entry for each cell of the pool, (cell 16 + initiator) 16 + target:
  *          those held in the order of their arrival, behind them the free ones. They are in order
  *          if these numbers are as said, every cell of the pool has one entry, and every entry is
- *          of a pair of the shelf. Every call tests it; new queues, and what every call leaves of
- *          queues in order, are in order. Zeros are not.
+ *          of a pair of the shelf. Every call on queues tests it; new queues, and what every call
+ *          leaves of queues in order, are in order. Zeros are not.
  * pool     64 bytes for each cell.
  *
- * A call that declines changes nothing: records, pool, state, output and table keep every byte.
+ * Each call returns BELLACUSH_DONE, a slot with its rounds and a count with its cells, or the number
+ * why it declined. Then it changes nothing: records, pool, state, output and table keep every byte.
  */
 
 /*
@@ -516,8 +519,10 @@ uint32_t bellacush_add_cell(uint32_t *records, size_t records_len, uint32_t init
  * Serves one slot of the queues: a pair asks if its queue holds a cell. The head of each granted
  * queue is removed, and target t's cell goes to byte 64 t of out; other bytes of out are not
  * touched, nor is the pool. State, slot, mode and table are those of bellacush_slot, and so is the
- * word returned. A cell at the head of a queue is forwarded within n^2 served slots.
- * Tested in order: 8 (state, table), 17, 1, 2, 3, 4, 5, 7 (out below 64 n).
+ * word returned; the owners in the state are kept and play no part, so a cell between ports of two
+ * operators is forwarded. A cell at the head of a queue is forwarded within n^2 served slots.
+ * Tested in order: 8 (state, table), 17 (pool, records, ports in the state other than the records'),
+ * 2, 3 or 4, 5, 7 (out below 64 n).
  */
 uint32_t bellacush_queue_slot(uint8_t *state, size_t state_len, uint32_t slot, uint32_t mode,
                               uint32_t *records, size_t records_len, const uint8_t *pool,

@@ -12,6 +12,7 @@ mod plain_ledger;
 mod plain_queues;
 #[cfg(plain_rule)]
 mod plain_rule;
+mod queue_stacks;
 mod queues;
 mod replays;
 mod stack;
@@ -60,6 +61,7 @@ fn main() {
     #[cfg(plain_rule)]
     plain_rule::section();
     stacks();
+    queue_stacks::section();
     #[cfg(before)]
     before::compared();
 }

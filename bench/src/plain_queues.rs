@@ -48,7 +48,7 @@ pub fn add(records: &mut [u32], (i, t): (u32, u32), cell: &[u8], pool: &mut [u8]
         return 8;
     }
     let ports = records.first().copied().unwrap_or(0);
-    if ports < 1 || ports > 16 {
+    if !(1..=16).contains(&ports) {
         return 1;
     }
     if i >= ports || t >= ports || !usable(records, pool.len()) {

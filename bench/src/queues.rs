@@ -8,15 +8,15 @@ use std::hint::black_box;
 use crate::timing::{compare, Times};
 use crate::{micro, plain_queues, MODES, MOST_RATIO, MOST_SECONDS};
 
-const PORTS: usize = 16;
+pub const PORTS: usize = 16;
 const MOST_ADD_SECONDS: f64 = 1e-6;
 
 type SlotFn = fn(&mut [u8], u32, u32, &mut [u32], &[u8], &mut [u8], &mut [u8]) -> u32;
 type AddFn = fn(&mut [u32], (u32, u32), &[u8], &mut [u8]) -> u32;
 
 /// All cells held, in random pairs.
-fn full_shelf() -> Shelf {
-    let mut random = Random::new(1);
+pub fn full_shelf(seed: u64) -> Shelf {
+    let mut random = Random::new(seed);
     let mut shelf = Shelf::new(PORTS, MOST_CELLS);
     while shelf.held() < MOST_CELLS {
         let cell = [shelf.held() as u8; CELL_LEN];
@@ -104,7 +104,7 @@ fn row(work: &str, times: Times, most: f64) {
 }
 
 pub fn section() {
-    let shelf = full_shelf();
+    let shelf = full_shelf(1);
     println!("\n## The queues, 16 ports, {MOST_CELLS} cells held\n");
     println!("One call through the C form against the same in plain Rust, which tests the records by the");
     println!("same rule; both copy full records back before each slot. Limits: 8.5 µs a slot, 1 µs an add,");

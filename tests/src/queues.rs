@@ -14,6 +14,38 @@ pub const MOST_CELLS: usize = 960;
 /// The words of the records before their entries.
 pub const HEAD_LEN: usize = 3;
 
+/// The calls that work on full queues, as C sees them.
+pub type AddCall = unsafe extern "C" fn(
+    records: *mut u32,
+    records_len: usize,
+    initiator: u32,
+    target: u32,
+    cell: *const c_uchar,
+    cell_len: usize,
+    pool: *mut c_uchar,
+    pool_len: usize,
+) -> u32;
+pub type CountCall = unsafe extern "C" fn(
+    records: *const u32,
+    records_len: usize,
+    initiator: u32,
+    target: u32,
+) -> u32;
+pub type SlotCall = unsafe extern "C" fn(
+    state: *mut c_uchar,
+    state_len: usize,
+    slot: u32,
+    mode: u32,
+    records: *mut u32,
+    records_len: usize,
+    pool: *const c_uchar,
+    pool_len: usize,
+    out: *mut c_uchar,
+    out_len: usize,
+    table: *mut c_uchar,
+    table_len: usize,
+) -> u32;
+
 extern "C" {
     fn bellacush_new_queues(records: *mut u32, records_len: usize, n: u32, pool_len: usize) -> u32;
     fn bellacush_add_cell(
@@ -47,6 +79,10 @@ extern "C" {
         table_len: usize,
     ) -> u32;
 }
+
+pub const ADD: AddCall = bellacush_add_cell;
+pub const COUNT: CountCall = bellacush_count_cells;
+pub const SLOT: SlotCall = bellacush_queue_slot;
 
 // Every call below is sound: pointers show the units of slices, and the library writes only through
 // those that are lent to be written.

@@ -1,2 +1,3 @@
 pub mod Adds
 pub mod Counts
+pub mod Unique

@@ -4,3 +4,4 @@ pub mod Cells
 pub mod Heads
 pub mod Ordered
 pub mod Pools
+pub mod Unique

@@ -1,3 +1,4 @@
 pub mod Pairs
 pub mod Requests
 pub mod Serves
+pub mod Unique

@@ -65,8 +65,8 @@ module _ (m c w : ℕ) (words pool out sets : List ℕ) (fit : usable m c w word
     kept-and-gone : r .kept + length (leaving m sets (heldOf words)) ≡ countOf words
     kept-and-gone = all-together m sets (drop 3 words) (countOf words) words-room r taken
 
-    pub kept-few : (r .kept ≤ held) × (r .kept ≤ c)
-    kept-few = (omega (arith, kept-and-gone), omega (arith, kept-and-gone, known .order .head .held, known .order .head .cells))
+    pub kept-few : r .kept ≤ held
+    kept-few = omega (arith, kept-and-gone)
 
     same-leaver : (j : ℕ) → j < length (leaving m sets (heldOf words)) → getD (r .entries) j 0 ≡ getD (leaving m sets (heldOf words)) j 0
     same-leaver j h = sym (getD-take (length (leaving m sets (heldOf words))) (r .entries) j 0 h) ∙ ap (λ (l : List ℕ). getD l j 0) (taken .gone)

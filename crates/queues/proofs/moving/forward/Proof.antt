@@ -6,7 +6,7 @@ use borrow.Author.Needs.{needs}
 use lib.ListN.{length, take, drop}
 use Rattle.frames.specs.Part.{mostPorts}
 use Rattle.queue_records.specs.Order.{cellLen}
-use Rattle.queue_records.specs.Queue.{cellAt}
+use Rattle.queue_records.specs.Queue.{cellAt, stored}
 use Rattle.queues.specs.Parting.{forwarded}
 use Rattle.queue_records.proofs.Pools.{length-stored, length-cell}
 use Rattle.queues.proofs.Partings.{one-out, all-out}
@@ -36,7 +36,7 @@ loop-again c =
     let s = c .before .before .show .ensures in
     let full : length (a .t1) ≡ mostPorts = search needs in (
       search needs,
-      ap length s ∙ length-stored cellLen (l .out) (t .result .0) (cellAt cellLen (a .pool .now) (x .result)) (length-cell cellLen (a .pool .now) (x .result) (rw (x .ensures) cell)) (rw (t .ensures .0, l .inv .1) place) ∙ l .inv .1,
+      ap length {y = stored cellLen (l .out) (t .result .0) (cellAt cellLen (a .pool .now) (x .result))} s ∙ length-stored cellLen (l .out) (t .result .0) (cellAt cellLen (a .pool .now) (x .result)) (length-cell cellLen (a .pool .now) (x .result) (rw (x .ensures) cell)) (rw (t .ensures .0, l .inv .1) place) ∙ l .inv .1,
       one-out mostPorts cellLen (a .pool .now) (a .t1) (a .gone) (a .out .now) (l .j) (l .out) _ (x .result) (t .result .0) (search needs) (rw full (c .before .before .before .before .before .before .before .before .before .before .pre .0)) (l .inv .2) (x .ensures) (t .ensures .0) s,
     )
 

@@ -23,7 +23,8 @@ cast-words : tie.Need-cast-words
 cast-words c =
     let a = c .before .before .before .before .before .before .before .before .before .before .args in
     let t = c .before .before .before .take-heads in
-    omega (arith, kept-few mostPorts mostCells cellLen (a .words .now) (a .pool .now) (a .out .now) (a .sets) (c .before .before .before .before .before .before .before .before .before .before .pre .0) (c .before .before .before .before .before .before .before .before .before .before .pre .1) (c .before .before .before .before .before .word .result) (c .before .before .before .before .before .word .ensures .0) (t .result) (t .ensures .0) .1)
+    let word = c .before .before .before .before .before .word in
+    omega (arith, word .ensures .1, kept-few mostPorts mostCells cellLen (a .words .now) (a .pool .now) (a .out .now) (a .sets) (c .before .before .before .before .before .before .before .before .before .before .pre .0) (c .before .before .before .before .before .before .before .before .before .before .pre .1) (word .result) (word .ensures .0) (t .result) (t .ensures .0))
 
 slice-write-words : tie.Need-slice-write-words
 slice-write-words c =
@@ -34,7 +35,7 @@ sub-forward : tie.Need-sub-forward
 sub-forward c =
     let a = c .before .before .before .before .before .before .before .before .before .before .args in
     let t = c .before .before .before .take-heads in
-    kept-few mostPorts mostCells cellLen (a .words .now) (a .pool .now) (a .out .now) (a .sets) (c .before .before .before .before .before .before .before .before .before .before .pre .0) (c .before .before .before .before .before .before .before .before .before .before .pre .1) (c .before .before .before .before .before .word .result) (c .before .before .before .before .before .word .ensures .0) (t .result) (t .ensures .0) .0
+    kept-few mostPorts mostCells cellLen (a .words .now) (a .pool .now) (a .out .now) (a .sets) (c .before .before .before .before .before .before .before .before .before .before .pre .0) (c .before .before .before .before .before .before .before .before .before .before .pre .1) (c .before .before .before .before .before .word .result) (c .before .before .before .before .before .word .ensures .0) (t .result) (t .ensures .0)
 
 forward-requires : tie.Need-forward-requires
 forward-requires c κs =
