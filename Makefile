@@ -2,7 +2,8 @@
 # make run        play a shelf; ARGS="ports=8 slots=640" changes it, ARGS=help explains; ARGS="queues=960" plays the compact shelf
 #                 ARGS="trace=FILE" keeps its slots in a trace, and build/replay FILE prints their tables
 # make test       the gate: all proofs, then the Rust and C tests
-# make bench      measure the slot call against a plain Rust slot; BEFORE=elsewhere/libbellacush.a against that one too
+# make bench      measure the slot call against a plain Rust slot, and what it joins against maximum matching;
+#                 BEFORE=elsewhere/libbellacush.a against that archive too
 # make install    library, header and pkg-config file, under DESTDIR and PREFIX
 # make clean      remove everything that was built
 

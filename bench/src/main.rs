@@ -2,6 +2,7 @@
 
 #[cfg(before)]
 mod before;
+mod best;
 mod by_columns;
 mod central;
 mod feeds;
@@ -62,6 +63,7 @@ fn main() {
     plain_rule::section();
     stacks();
     queue_stacks::section();
+    best::section();
     #[cfg(before)]
     before::compared();
 }

@@ -5,6 +5,7 @@ pub mod calls;
 pub mod frames;
 pub mod ledger;
 pub mod lent;
+pub mod matching;
 pub mod measured;
 pub mod promises;
 pub mod queues;

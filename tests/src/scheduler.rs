@@ -46,16 +46,25 @@ pub struct Schedule {
     pub rounds: u32,
 }
 
-/// One slot; `None` is a host that is not heard.
+/// What the planned stage leaves.
+#[derive(Clone, Copy, Debug, PartialEq)]
+pub struct Planned {
+    pub given: Matrix,
+    pub live: Matrix,
+}
+
+/// The planned stage of a slot; `None` is a host that is not heard.
+pub fn planned(at: Position, hosts: &[Option<Config>]) -> Planned {
+    let slot = Slot::after_planned(at, hosts);
+    Planned {
+        given: slot.held,
+        live: slot.live,
+    }
+}
+
+/// One slot.
 pub fn schedule(at: Position, mode: Mode, hosts: &[Option<Config>]) -> Schedule {
-    assert_eq!(hosts.len(), at.ports);
-    let mut slot = Slot {
-        at,
-        live: [[false; MOST_PORTS]; MOST_PORTS],
-        held: [[false; MOST_PORTS]; MOST_PORTS],
-    };
-    slot.keep_planned(&said(at.owners, hosts, |config| config.pre));
-    slot.raise_requests(&asked(at.owners, hosts));
+    let mut slot = Slot::after_planned(at, hosts);
     let rounds = match mode {
         Mode::Central => {
             slot.match_central();
@@ -132,6 +141,18 @@ struct Slot {
 }
 
 impl Slot {
+    fn after_planned(at: Position, hosts: &[Option<Config>]) -> Slot {
+        assert_eq!(hosts.len(), at.ports);
+        let mut slot = Slot {
+            at,
+            live: [[false; MOST_PORTS]; MOST_PORTS],
+            held: [[false; MOST_PORTS]; MOST_PORTS],
+        };
+        slot.keep_planned(&said(at.owners, hosts, |config| config.pre));
+        slot.raise_requests(&asked(at.owners, hosts));
+        slot
+    }
+
     /// How many steps the rotation that starts at `start` takes to come to `place`.
     fn steps(&self, start: usize, place: usize) -> usize {
         (place + self.at.ports - start) % self.at.ports

@@ -13,7 +13,7 @@ use Rattle.demands.specs.Choice.{Chosen}
 use Rattle.demands.proofs.Keeps.{first-place}
 
 -- every number below n has its place in the rotation
-placed : (n a x : ℕ) → a < n → x < n → (k : ℕ) × (k < n) × (place n a k ≡ x)
+pub placed : (n a x : ℕ) → a < n → x < n → (k : ℕ) × (k < n) × (place n a k ≡ x)
 placed n a x a< x< = go (decLe a x)
   where
     go : Dec (a ≤ x) → (k : ℕ) × (k < n) × (place n a k ≡ x)

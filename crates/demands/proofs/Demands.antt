@@ -23,10 +23,10 @@ pub use Rattle.demands.proofs.Choice.{choice-chosen, chosen-once}
 pub use Rattle.demands.proofs.Rules.{planner-chosen, winner-favoured, winner-chosen, grants-chosen, accepted-chosen}
 pub use Rattle.demands.proofs.Rounds.{rounds-on-tables, rounds-run, rounds-once}
 -- A round with a live request joins a pair, so that the live requests fall, and there are no more rounds than ports. A limit of as many
--- leaves no live request: the initiator or the target of each request is held.
+-- leaves no live request, nor do the other modes: the initiator or the target of each request is held.
 pub use Rattle.demands.proofs.Progress.{round-joins, round-falls}
-pub use Rattle.demands.proofs.Rounds.{each-joins, none-live-left}
-pub use Rattle.demands.proofs.NoneLeft.{busy-on-tables, busy-in-block}
+pub use Rattle.demands.proofs.Rounds.{each-joins}
+pub use Rattle.demands.proofs.NoneLeft.{leaves-none, busy-on-tables, busy-in-block}
 -- What each host is told: its grant frame in the output of a served slot, field by field; it names all that the host holds, and no more. No
 -- byte beyond the frames is touched.
 pub use Rattle.demands.proofs.SlotGrants.{grant-told, held-named, named-held, beyond-untouched}

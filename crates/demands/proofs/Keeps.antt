@@ -44,14 +44,14 @@ module _ (P : Work → Type 0) (keeps : (s : Work) (i t : ℕ) → asks (s .live
   unfolding joinLive
   live-keeps s i t p = arms P (asks (s .live) i t) _ _ (λ e. keeps s i t e p) (λ e. p)
 
-  serve-keeps : (k : ℕ) (s : Work) → P s → P (serve st k s)
+  pub serve-keeps : (k : ℕ) (s : Work) → P s → P (serve st k s)
   unfolding serve
   serve-keeps k s = live-keeps s _ _
 
   pub central-keeps : (s : Work) → P s → P (central st s (st .ports))
   central-keeps s = kept _ s (λ k. P) (st .ports) (λ k u h. serve-keeps k u)
 
-  diagonal-keeps : (s : Work) → P s → P (diagonal st s (st .ports))
+  pub diagonal-keeps : (s : Work) → P s → P (diagonal st s (st .ports))
   diagonal-keeps s = kept _ s (λ k. P) (st .ports) (λ k u h. live-keeps u _ _)
 
   -- the round that began with these live requests and these grants

@@ -28,6 +28,7 @@ pub mod SlotCalls
 pub mod SlotHosts
 pub mod Small
 pub mod Progress
+pub mod Cleared
 pub mod Turns
 pub mod Histories
 pub mod Lawful

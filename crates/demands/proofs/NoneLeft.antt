@@ -1,5 +1,5 @@
--- A limit of n or more leaves no request open: its initiator holds a target, or its target is held.
-use mathlib.Core.Path.{_≡_, sym, subst, _∙_}
+-- The central and the diagonal-first form, and a limit of n or more, leave no request open: its initiator holds a target, or its target is held.
+use mathlib.Core.Path.{_≡_, _∙_}
 use mathlib.Core.Logic.{_⊎_, inl, inr, ⊎-elim}
 use mathlib.Core.Bool.{true}
 use mathlib.Core.List.{List}
@@ -12,23 +12,35 @@ use Rattle.laws.specs.Sets.{asks}
 use Rattle.ports.specs.Tables.{within}
 use Rattle.ports.specs.declared.state.State.{State}
 use Rattle.ports.specs.declared.state.Mode.{Mode}
-use Rattle.ports.specs.declared.state.Mode.the-variants.{Distributed}
+use Rattle.ports.specs.declared.state.Mode.the-variants.{Central, Distributed, Diagonal}
 use Rattle.choices.specs.Join.{join}
 use Rattle.planned.specs.Planned.{planner, start}
-use Rattle.lcf.specs.Slot.{matched}
+use Rattle.lcf.specs.Slot.{diagonalFirst, serveMode, matched}
 use Rattle.choices.specs.declared.work.Work.{Work}
 use Rattle.demands.specs.Call as tables
 use Rattle.demands.specs.SlotCall.{SlotCall, number, sets, onTables}
 use Rattle.demands.specs.Block.{Asks}
-use Rattle.demands.specs.Progress.{Within, Busy}
+use Rattle.demands.specs.History.{Below}
+use Rattle.demands.specs.Rounds.{SomeLive}
+use Rattle.demands.specs.Progress.{Within, Full, Busy}
 use Rattle.demands.proofs.Join.{left-live, held-still, held-now, held-length}
-use Rattle.demands.proofs.Keeps.{mode-keeps, planned-keeps}
+use Rattle.demands.proofs.Keeps.{diagonal-keeps, mode-keeps, planned-keeps}
 use Rattle.demands.proofs.Stage.{within-asks, asks-within}
 use Rattle.demands.proofs.Progress.{join-within, start-within}
+use Rattle.demands.proofs.Cleared.{central-leaves-none}
 use Rattle.demands.proofs.Rounds.{none-live-left}
 use Rattle.demands.proofs.Calls.{served-call}
 use Rattle.demands.proofs.SlotCalls.{request-rows, whole, same-number, same-sets}
 use Rattle.demands.proofs.SlotHosts.{requests-count}
+
+-- no live request is left
+pub leaves-none : (st : State) (req pre : List ℕ) → st .ports ≤ length req → Below st → (mode : Mode) → Full (st .ports) mode
+    → SomeLive (st .ports) (matched st mode req pre .work .live) → ⊥
+unfolding matched serveMode diagonalFirst
+leaves-none st req pre rows b Central full = central-leaves-none st (start st req pre) (start-within st req pre rows) (b .target)
+leaves-none st req pre rows b (Distributed limit) full = none-live-left st req pre rows limit full
+leaves-none st req pre rows b Diagonal full =
+    central-leaves-none st _ (diagonal-keeps (Within (st .ports)) (join-within st) st (start st req pre) (start-within st req pre rows)) (b .target)
 
 module _ (i t : ℕ) where
   -- the request of i for t is live, or i or t is busy
@@ -61,26 +73,26 @@ module _ (i t : ℕ) where
         (λ c u e x. x) (length-replicate {A = ℕ} (length req) 0, inl (asks-within (st .ports) req i t i< t< asked)) .1
 
     -- and at the end nothing is live
-    pub matched-busy : (limit : ℕ) → st .ports ≤ limit → Busy (matched st (Distributed limit) req pre .work .held) i t
+    matched-busy : (mode : Mode) → Full (st .ports) mode → Below st → Busy (matched st mode req pre .work .held) i t
     unfolding matched
-    matched-busy limit enough = ⊎-elim
-        (λ live. absurd (none-live-left st req pre rows limit enough (record { initiator = i; target = t; below = i<; asked = live }))) (λ busy. busy)
+    matched-busy mode full b = ⊎-elim
+        (λ live. absurd (leaves-none st req pre rows b mode full (record { initiator = i; target = t; below = i<; asked = live }))) (λ busy. busy)
         (mode-keeps (λ u. Within (st .ports) u × Lives u)
         (λ s w c live (h, x). (join-within st s w c live h, join-lives s w c (lt-of-lt-of-le (h .inside w c live .0) (h .room)) x))
-        st (Distributed limit) (start st req pre) (start-within st req pre rows, start-lives) .1)
+        st mode (start st req pre) (start-within st req pre rows, start-lives) .1)
 
   -- On tables, and on frames.
-  module _ (m : ℕ) (st : State) (limit : ℕ) (enough : st .ports ≤ limit) where
-    pub busy-on-tables : (c : tables.Call) → tables.number m st c ≡ 0 → c .mode ≡ Distributed limit → st .ports ≤ length (c .req)
+  module _ (m : ℕ) (st : State) where
+    pub busy-on-tables : (c : tables.Call) → tables.number m st c ≡ 0 → Full (st .ports) (c .mode) → st .ports ≤ length (c .req)
         → i < st .ports → t < st .ports → asks (c .req) i t ≡ true → Busy (tables.sets m st c) i t
-    busy-on-tables c done mode rows i< t< asked =
-        rw (served-call m st c done .sets-matched)
-        (subst (λ (mode : Mode). Busy (matched st mode (c .req) (c .pre) .work .held) i t) (sym mode) (matched-busy st (c .req) (c .pre) rows i< t< asked limit enough))
+    busy-on-tables c done full rows i< t< asked =
+        let r = served-call m st c done in
+        rw (r .sets-matched) (matched-busy st (c .req) (c .pre) rows i< t< asked (c .mode) full (r .in-order .offsets))
 
     -- Every request of an enabled heard host is connected, or its initiator holds another target, or its target another initiator.
-    pub busy-in-block : (c : SlotCall) → number m st c ≡ 0 → c .mode ≡ Distributed limit → Asks (st .ports) (st .owners) (c .block) i t → Busy (sets m st c) i t
-    busy-in-block c done mode a =
+    pub busy-in-block : (c : SlotCall) → number m st c ≡ 0 → Full (st .ports) (c .mode) → Asks (st .ports) (st .owners) (c .block) i t → Busy (sets m st c) i t
+    busy-in-block c done full a =
         let block = whole m st c done in
         rw (same-sets m st c done)
-        (busy-on-tables (onTables m st c) (same-number m st c done) mode (rw (request-rows m st c) (block .most-ports)) (a .initiator) (a .target)
+        (busy-on-tables (onTables m st c) (same-number m st c done) full (rw (request-rows m st c) (block .most-ports)) (a .initiator) (a .target)
         (requests-count (st .owners) block i t .1 (a .initiator, a .enabled, a .asked)))

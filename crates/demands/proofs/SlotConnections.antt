@@ -17,7 +17,7 @@ use Rattle.demands.specs.SlotCall.{SlotCall, number, sets, onTables}
 use Rattle.demands.specs.Block.{Allied, Enabled, Given, Live}
 use Rattle.demands.proofs.Connections as on-tables
 use Rattle.demands.proofs.SlotCalls.{request-rows, slot-cases, whole, same-number, same-sets}
-use Rattle.demands.proofs.SlotHosts.{Whole, given-exactly, live-in-block}
+use Rattle.demands.proofs.SlotHosts.{Whole, given-exactly, live-exactly}
 use Rattle.demands.proofs.SlotRefusal.{declined-does-nothing}
 
 module _ (m : ℕ) (st : State) (c : SlotCall) where
@@ -42,7 +42,7 @@ module _ (m : ℕ) (st : State) (c : SlotCall) where
   nothing-from-nowhere i t e =
       ⊎-elim
       (λ g. let given = given-exactly w i t .0 g in (given .claimant .enabled, inl given))
-      (λ (l, alone). let live = live-in-block w i t l in (live .enabled, inr (live, λ u q. alone u (ap (λ s. asks s i u) (sym same) ∙ q))))
+      (λ (l, alone). let live = live-exactly w i t .0 l in (live .enabled, inr (live, λ u q. alone u (ap (λ s. asks s i u) (sym same) ∙ q))))
       (on-tables.nothing-from-nowhere m st (onTables m st c) i t (ap (λ s. asks s i t) (sym same) ∙ e))
     where
       done : number m st c ≡ 0

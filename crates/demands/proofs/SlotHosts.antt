@@ -167,14 +167,22 @@ module _ {m : ℕ} {st : State} {block : List ℕ} (whole : Whole m (st .ports) 
     },
   )
 
-  pub live-in-block : (i t : ℕ) → tables.Live st (req (st .owners) whole) (pre (st .owners) whole) i t → Live st block i t
-  live-in-block i t l =
-      let (i<, enabled, asked) = requests-count (st .owners) whole i t .0 (l .asked) in
-      record {
-        initiator = i<;
-        target = l .target;
-        enabled = enabled;
-        asked = asked;
-        given-none = λ u g. l .given-none u (given-exactly i u .1 g);
-        given-to-none = λ j g. l .given-to-none j (given-exactly j t .1 g);
-      }
+  pub live-exactly : (i t : ℕ) → tables.Live st (req (st .owners) whole) (pre (st .owners) whole) i t ↔ Live st block i t
+  live-exactly i t = (
+    λ l. let (i<, enabled, asked) = requests-count (st .owners) whole i t .0 (l .asked) in
+        record {
+          initiator = i<;
+          target = l .target;
+          enabled = enabled;
+          asked = asked;
+          given-none = λ u g. l .given-none u (given-exactly i u .1 g);
+          given-to-none = λ j g. l .given-to-none j (given-exactly j t .1 g);
+        },
+    λ l. record {
+      initiator = l .initiator;
+      target = l .target;
+      asked = requests-count (st .owners) whole i t .1 (l .initiator, l .enabled, l .asked);
+      given-none = λ u g. l .given-none u (given-exactly i u .0 g);
+      given-to-none = λ j g. l .given-to-none j (given-exactly j t .0 g);
+    },
+  )

@@ -1,4 +1,4 @@
--- What a round of the distributed form achieves (rule 6), and what is left when its rounds end.
+-- What a round of the distributed form achieves (rule 6), and what is left when a slot ends.
 use mathlib.Core.Path.{_≡_}
 use mathlib.Core.Logic.{_⊎_}
 use mathlib.Core.Bool.{true, false}
@@ -7,6 +7,8 @@ use Prim.Native.Nat.{ℕ, suc, _≤_, _<_}
 use lib.ListN.{length}
 use Rattle.laws.specs.Sets.{asks}
 use Rattle.ports.specs.declared.state.State.{State}
+use Rattle.ports.specs.declared.state.Mode.{Mode}
+use Rattle.ports.specs.declared.state.Mode.the-variants.{Central, Distributed, Diagonal}
 use Rattle.choices.specs.declared.work.Work.{Work}
 use Rattle.demands.specs.Rounds.{afterRounds}
 
@@ -37,6 +39,12 @@ pub record RoundsJoin (st : State) (s : Work) (r : ℕ) : Type 0 where
   pub joins : (k : ℕ) → k < r → Joins (afterRounds st s k) (afterRounds st s (suc k))
   pub falls : (k : ℕ) → k < r → Falls (afterRounds st s k .live) (afterRounds st s (suc k) .live)
   pub most-ports : r ≤ st .ports
+
+-- the modes that leave no live request of n ports: the central and the diagonal-first form, and the distributed form with a limit of n or more
+abbrev pub Full : ℕ → Mode → Type 0
+Full n Central = Unit {0}
+Full n (Distributed limit) = n ≤ limit
+Full n Diagonal = Unit {0}
 
 -- initiator i holds a target, or target t is held; both where the pair is connected
 abbrev pub Busy : List ℕ → ℕ → ℕ → Type 0
