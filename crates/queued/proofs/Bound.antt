@@ -17,8 +17,10 @@ use Rattle.ports.specs.declared.state.Mode.{Mode}
 use Rattle.ports.specs.declared.answer.Stepped.{Stepped}
 use Rattle.lcf.specs.Advance.{advance}
 use Rattle.demands.specs.Call as tables
-use Rattle.demands.specs.History.{Below, howMany, InEach, InServed, ByValue, First, Fair}
+use Rattle.demands.specs.History.{Below, howMany, InEach, InServed, ByValue, Moves, First, Fair}
+use Rattle.demands.specs.Refusal.{InOrder}
 use Rattle.demands.specs.Share.{Waits}
+use Rattle.demands.proofs.Calls.{served-call}
 use Rattle.demands.proofs.Share.{tables-fair}
 use Rattle.demands.proofs.Turns.{fair-share, by-value}
 use Rattle.queue_records.specs.Queue.{waiting, queueOf}
@@ -31,17 +33,20 @@ use Rattle.queued.proofs.Calls.{one-call, not-served-keeps}
 
 module _ (m c w : ℕ) where
   -- the scheduler's call of a slot
-  abbrev onTables : Shelf → ℕ → Mode → tables.Call
+  abbrev pub onTables : Shelf → ℕ → Mode → tables.Call
   onTables s slot mode = record { slot = slot; mode = mode; req = requests m (s .words); pre = replicate m 0 }
 
   module _ (s : Shelf) (slot : ℕ) (mode : Mode) (out : List ℕ) (e : served m c w s (Slot slot mode out) ≡ true) where
-    is-served : Served m c w (s .words) (s .state) (length (s .pool)) slot mode (length out)
+    pub is-served : Served m c w (s .words) (s .state) (length (s .pool)) slot mode (length out)
     unfolding served number
     is-served = known m c w (s .words) (s .state) (length (s .pool)) slot mode (length out) (eqb-true _ 0 e)
 
     on-tables : tables.served m (s .state) (onTables s slot mode) ≡ true
     unfolding served number
     on-tables = sym (ap (λ (r : Stepped). eqb (r .answer .number) 0) (is-served .is-run)) ∙ e
+
+    pub in-order : InOrder m (s .state)
+    in-order = served-call m (s .state) (onTables s slot mode) (eqb-true _ 0 on-tables) .in-order
 
   keeps : (s : Shelf) (x : Call) → ByValue s x → served m c w s x ≡ false → next m c w s x .state ≡ s .state
   unfolding served next number
@@ -53,6 +58,9 @@ module _ (m c w : ℕ) where
   advances s (Cell i t bytes) k e = absurd (true≢false (sym e))
   advances s (Slot slot mode out) k e =
       ap (λ (r : Stepped). r .state) (is-served s slot mode out e .is-run) ∙ tables-fair m 0 0 .moves .served-advances (s .state) (onTables s slot mode) tt (on-tables s slot mode out e)
+
+  pub moves : Moves (λ (s : Shelf). s .state) ByValue (next m c w) (served m c w)
+  moves = record { declined-keeps = keeps; served-advances = advances }
 
   module _ (i t : ℕ) (hi : i < m) (ht : t < m) where
     -- the queue holds a cell
@@ -72,7 +80,7 @@ module _ (m c w : ℕ) where
         rw e (ap (λ (r : Stepped). asks (r .answer .sets) i t) (is-served s slot mode out e .is-run) ∙ both (tables.served m (s .state) (onTables s slot mode)) _ hit .1)
 
     fair : Fair (λ (s : Shelf). s .state) ByValue (next m c w) (served m c w) (grants m c w i t) Holds (First i t)
-    fair = record { moves = record { declined-keeps = keeps; served-advances = advances }; favours = favours }
+    fair = record { moves = moves; favours = favours }
 
     -- the head stays until the pair is granted
     head-stays : (s : Shelf) (x : Call) (h : List ℕ) (rest : List (List ℕ)) → queue m c w i t s ≡ h ∷ rest → grants m c w i t s x ≡ false

@@ -11,3 +11,5 @@ pub mod Outputs
 pub mod Histories
 pub mod Totals
 pub mod Bound
+-- calls of the C form
+pub mod CForm

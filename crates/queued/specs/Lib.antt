@@ -1,3 +1,4 @@
 pub mod Shelf
 pub mod History
 pub mod Totals
+pub mod CShelf
