@@ -1,5 +1,6 @@
 -- Laws of the rotation and of the choice, over any p, f, n and start.
 use mathlib.Core.Path.{_≡_, refl, sym, ap, _∙_}
+use mathlib.Core.Logic.{_≢_}
 use mathlib.Core.Bool.{Bool, true, false, _&&_, false≢true}
 use Prim.Native.Nat.{ℕ, zero, suc, _+_, _-_, _*_, _/_, _%_, _^_, _<_, _≤_}
 use native.Mathlib.Nat.{lt-of-lt-of-le, mod-lt, mod-eq-of-lt, add-mod-right, mod-add-mod, zero-div, zero-add, add-zero, add-suc, mul-le-mul-right}
@@ -29,6 +30,14 @@ wraps x n h l = sym (mod-eq-of-lt (omega arith)) ∙ sym (add-mod-right (x - n) 
 -- taking y away first
 pub turns : (n a x y : ℕ) {b r : ℕ} → y < n → b ≡ (a + n - y) % n → r ≡ (b + x) % n → r ≡ turned n a x y
 turns n a x y h p q = q ∙ ap (λ z. (z + x) % n) p ∙ mod-add-mod (a + n - y) n x ∙ ap (λ z. z % n) (omega arith)
+
+-- different places of a rotation are different ports
+pub places-apart : (n a j k : ℕ) → a < n → j < k → k < n → place n a k ≢ place n a j
+places-apart n a j k a< jk kn e =
+    let back : (x : ℕ) → x < n → ((a + x) % n + (n - a)) % n ≡ x = λ x x<.
+    let q : a + x + (n - a) ≡ x + n = omega arith in
+    mod-add-mod (a + x) n (n - a) ∙ ap (λ z. z % n) q ∙ add-mod-right x n ∙ mod-eq-of-lt x< in
+    omega (arith, sym (back k kn) ∙ ap (λ z. (z + (n - a)) % n) e ∙ back j (omega arith))
 
 -- where the numbers are all 0, the first with p is chosen
 pub first : (m s n a : ℕ) {u r : ℕ} → u ≡ s → r ≡ choice (has u) (λ x. getD (replicate m 0) x 0) n a → r ≡ choice (has s) (λ x. 0) n a

@@ -1,6 +1,6 @@
 -- The rule over columns agrees with the plain one, target by target.
 use mathlib.Core.Path.{_≡_, refl, sym, ap, _∙_}
-use mathlib.Core.Logic.{_⊎_, inl, inr, _≢_}
+use mathlib.Core.Logic.{_≢_}
 use mathlib.Core.Bool.{Bool, true, false, not, _&&_, _||_, cond, true≢false}
 use mathlib.Core.List.{List, map}
 use Prim.Native.Nat.{ℕ, zero, suc, _+_, _-_, _%_, _^_, _≤_, _<_}
@@ -22,8 +22,9 @@ use Rattle.laws.proofs.Words.{has-and}
 use Rattle.laws.proofs.Members.{has-none, has-without, has-gathered, row-emptied}
 use Rattle.laws.proofs.Tests.{both, arms}
 use Rattle.ports.specs.Ready.{Ready}
-use Rattle.choices.specs.Choice.{place, fewest}
+use Rattle.choices.specs.Choice.{fewest}
 use Rattle.choices.specs.Join.{join, joinLive}
+use Rattle.choices.proofs.Choices.{places-apart}
 use Rattle.choices.proofs.Ports.{choice-below}
 use Rattle.central.specs.Central as plain
 use Rattle.ports.specs.declared.state.State.{State}
@@ -37,17 +38,7 @@ use Rattle.columns.specs.declared.planes.Planes.{Planes}
 use Rattle.columns.proofs.Digits.{two, digit-lt, ones-without, mask-below, mask-past}
 use Rattle.columns.proofs.Values.{number-lt, number-more, number-less}
 use Rattle.columns.proofs.Turned.{has-column, column-lt}
-use Rattle.columns.proofs.Winning.{placed, least-in, least-is}
-
--- a target that comes later in the rotation is another
-other : (n a j k : ℕ) → a < n → j < n → k < j → place n a j ≡ place n a k → ⊥
-other n a j k a< j< k< e = go (placed n a j a< j<) (placed n a k a< (omega arith))
-  where
-    go : (a + j ≡ place n a j) ⊎ (a + j ≡ place n a j + n) → (a + k ≡ place n a k) ⊎ (a + k ≡ place n a k + n) → ⊥
-    go (inl u) (inl v) = omega arith
-    go (inl u) (inr v) = omega arith
-    go (inr u) (inl v) = omega arith
-    go (inr u) (inr v) = omega arith
+use Rattle.columns.proofs.Winning.{least-in, least-is}
 
 no-digit : (i : ℕ) → digit 0 i ≡ 0
 no-digit i = ap (λ z. z % 2) (zero-div (2 ^ i))
@@ -196,7 +187,7 @@ module _ (st : State) (ws : List ℕ) where
           go i j i< l j< (no e) =
               ap (λ row. has row (target st j)) (row-joined i e)
               ∙ has-without (getD (w .live) i 0) t (target st j)
-              ∙ ap (λ z. not z && asks (w .live) i (target st j)) (ne-eqb _ _ (other (st .ports) (st .target .0) j k (ready .target) j< l))
+              ∙ ap (λ z. not z && asks (w .live) i (target st j)) (ne-eqb _ _ (places-apart (st .ports) (st .target .0) k j (ready .target) l j<))
               ∙ is .live i j i< (omega arith) j<
               ∙ ap (λ z. z && has (column ws (target st j)) i) (sym (has-without (b .free) c i ∙ ap (λ z. not z && has (b .free) i) (ne-eqb i c e)))
 

@@ -21,7 +21,7 @@ use Rattle.columns.proofs.Narrowing.{Lowest, all-lowest, narrows}
 use Rattle.columns.proofs.Choosing.{is-choice}
 
 -- a place of the rotation, before or after it has passed n
-pub placed : (n a j : ℕ) → a < n → j < n → (a + j ≡ place n a j) ⊎ (a + j ≡ place n a j + n)
+placed : (n a j : ℕ) → a < n → j < n → (a + j ≡ place n a j) ⊎ (a + j ≡ place n a j + n)
 placed n a j h l = go (decLt (a + j) n)
   where
     go : Dec (a + j < n) → (a + j ≡ place n a j) ⊎ (a + j ≡ place n a j + n)

@@ -1,10 +1,9 @@
 -- Diagonal first: every live pair of the diagonal is joined.
 use mathlib.Core.Path.{_≡_, refl, sym, ap, subst₂, _∙_}
-use mathlib.Core.Logic.{_≢_}
 use mathlib.Core.Bool.{true, false, true≢false}
 use mathlib.Core.List.{List}
-use Prim.Native.Nat.{ℕ, suc, _+_, _-_, _%_, _≤_, _<_}
-use native.Mathlib.Nat.{mod-lt, mod-eq-of-lt, mod-add-mod, add-mod-right}
+use Prim.Native.Nat.{ℕ, suc, _≤_, _<_}
+use native.Mathlib.Nat.{mod-lt}
 use native.Mathlib.Decide.{ℕ-discrete}
 use native.Mathlib.Omega.{arith}
 use lib.ListN.{length}
@@ -20,6 +19,7 @@ use Rattle.central.specs.Diagonal.{diagonal}
 use Rattle.planned.specs.Planned.{start}
 use Rattle.lcf.specs.Slot.{diagonalFirst, serveMode, matched}
 use Rattle.choices.specs.declared.work.Work.{Work}
+use Rattle.choices.proofs.Choices.{places-apart}
 use Rattle.demands.specs.History.{Below}
 use Rattle.demands.specs.Share.{Waits}
 use Rattle.demands.proofs.Join.{held-still, held-now, held-length, left-live}
@@ -36,14 +36,6 @@ pub record OnDiagonal (i t : ℕ) (st : State) : Type 0 where
 
 pub on-below : (i t : ℕ) (st : State) → OnDiagonal i t st → (i < st .ports) × (t < st .ports)
 on-below i t st on = (rw (← on .row) (mod-lt _ (omega (arith, on .step-below))), rw (← on .column) (mod-lt _ (omega (arith, on .step-below))))
-
--- different places of a rotation are different ports
-places-apart : (n a j k : ℕ) → a < n → j < k → k < n → place n a k ≢ place n a j
-places-apart n a j k a< jk kn e =
-    let back : (x : ℕ) → x < n → ((a + x) % n + (n - a)) % n ≡ x = λ x x<.
-    let q : a + x + (n - a) ≡ x + n = omega arith in
-    mod-add-mod (a + x) n (n - a) ∙ ap (λ z. z % n) q ∙ add-mod-right x n ∙ mod-eq-of-lt x< in
-    omega (arith, sym (back k kn) ∙ ap (λ z. (z + (n - a)) % n) e ∙ back j (omega arith))
 
 module _ (st : State) (b : Below st) (i t : ℕ) (on : OnDiagonal i t st) (s : Work) (live : asks (s .live) i t ≡ true) (row : i < length (s .held)) where
   a : ℕ → ℕ
