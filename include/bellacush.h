@@ -4,7 +4,8 @@
  * One call serves one slot: it takes the block of configuration frames that the hosts sent,
  * joins initiators to targets without conflict, and writes a grant frame for each host. A
  * ledger counts what was asked and what came of it, each waiting request once. A trace keeps
- * the blocks of slots in one file, from which they are replayed.
+ * the blocks of slots in one file, from which they are replayed; packet captures are imported
+ * into one.
  * The library holds nothing of its own, allocates nothing and always returns; everything that
  * it reads or changes is lent by the caller for the time of the call.
  *
@@ -13,8 +14,8 @@
  *    or uint16_t, as many words of that type, aligned as it asks. A null pointer is not to be
  *    lent with a length other than 0.
  *  - Nothing that a call may write (state, out, table, tables, part, ledger of a feed, figures,
- *    shown, place, records but of a count, pool of an add) overlaps anything else that is lent
- *    to the same call.
+ *    shown, place, report, records but of a count, pool of an add) overlaps anything else that is
+ *    lent to the same call.
  *  - No other thread touches what is lent before the call returns. Calls on separate memory
  *    may run at the same time.
  * Nothing else is asked: any lengths, bytes, words and numbers are answered as said below.
@@ -58,6 +59,14 @@ extern "C" {
 #define BELLACUSH_HEAD_LEN 3
 #define BELLACUSH_CONTENTS_LEN(count) ((size_t)5 + (size_t)10 * (count))
 #define BELLACUSH_BODY_LEN(n, slots) ((size_t)5 + BELLACUSH_BLOCK_LEN(n) * (slots))
+
+/* The measures of a capture, in bytes: its header, a record with its packet; the report on its
+   import; and room that is enough for its trace, where each record adds a body of one slot. */
+#define BELLACUSH_CAPTURE_HEADER_LEN 24
+#define BELLACUSH_CAPTURE_RECORD_LEN 32
+#define BELLACUSH_REPORT_LEN 8
+#define BELLACUSH_IMPORT_LEN(n, capture_len) \
+    ((size_t)5 + (BELLACUSH_BLOCK_LEN(n) + 15) * ((capture_len) / BELLACUSH_CAPTURE_RECORD_LEN))
 
 /* The queues: the bytes of a cell, and how many cells a pool has at most. */
 #define BELLACUSH_CELL_LEN 64
@@ -110,8 +119,8 @@ enum bellacush_number {
                                        trace or body, below its length; for tables, below 32
                                        for each slot */
     BELLACUSH_BAD_LEN = 8,          /* a state, table, frame, part, ledger, figures, operator
-                                       numbers, cell, records of new queues, or words to show of
-                                       a trace or body, of another length */
+                                       numbers, cell, records of new queues, report, or words to
+                                       show of a trace or body, of another length */
     BELLACUSH_BAD_TYPE = 9,         /* frame type other than asked for */
     BELLACUSH_BAD_CHECK = 10,       /* the frame's check differs */
     BELLACUSH_BAD_GRANT_FIELD = 11, /* bits 3 to 7 of the flags set, nodeId above 15, gntVal
@@ -123,9 +132,13 @@ enum bellacush_number {
                                        body number at or above the count */
     BELLACUSH_BAD_OPERATOR = 15,    /* an operator number above 1 on a port below n */
     BELLACUSH_QUEUES_FULL = 16,     /* every cell of the pool holds a queued cell */
-    BELLACUSH_BAD_QUEUES = 17       /* initiator or target at or above n, a pool of other than 1
+    BELLACUSH_BAD_QUEUES = 17,      /* initiator or target at or above n, a pool of other than 1
                                        to 960 whole cells or than the queues were made for, or
                                        records out of order or of another number of ports */
+    BELLACUSH_BAD_CAPTURE = 18      /* another magic or link type, a cut header or record, a
+                                       captured length other than 16, a host at or above n, a
+                                       slot stale against the packet before, or need of more
+                                       than 1024 bodies */
 };
 
 /* What bellacush_slot and bellacush_queue_slot return, taken apart: the number, and the rounds
@@ -435,6 +448,50 @@ uint32_t bellacush_write_trace(uint32_t n, const uint32_t *firsts, size_t firsts
                                const uint16_t *slots, size_t slots_len,
                                const uint8_t *bodies, size_t bodies_len,
                                uint8_t *out, size_t out_len);
+
+/*
+ * Imports a capture of the quick channel: writes the trace of the slots that were captured to out.
+ *
+ * A capture is a classic libpcap file. The numbers of its headers have the low byte first or the
+ * high byte first, as its magic has:
+ *
+ *      header     4 bytes  the magic, 0xA1B2C3D4; files in nanoseconds have another
+ *                 16 bytes version, zone, accuracy and greatest captured length: not looked at
+ *                 4 bytes  the link type, 147, in the low 28 bits; the others are not looked at
+ *      records    one behind the other; the last one ends the file:
+ *                 8 bytes  when it was captured: not looked at
+ *                 4 bytes  the captured length, 16
+ *                 4 bytes  the original length: not looked at
+ *                 16 bytes the packet, the same in both byte orders:
+ *                     4 bytes  the number of its slot, high byte first
+ *                     1 byte   its host, below n
+ *                     11 bytes the host's frame, whatever it holds
+ *
+ * Packets are in the order of their slots: none is stale against the packet before, whose slot
+ * minus its own is, mod 2^32, not from 1 to 2147483648. In the block of a slot stands, for each
+ * host, the first frame captured, and eleven zeros if there is none; a further one of the same
+ * slot and host was resent, and is skipped and counted. A gap in the slots' numbers, or 360 slots,
+ * starts a new body, whose offsets go on as if no slot had been served in the gap. From 4294967295
+ * to 0 is no gap.
+ *
+ * n       the ports.
+ * mode    that of every body: BELLACUSH_CENTRAL, the round limit of the distributed form, or
+ *         BELLACUSH_DIAGONAL.
+ * i, j    the offsets I and J before the first slot captured.
+ * capture the bytes of the file.
+ * out     gets the trace, for which BELLACUSH_IMPORT_LEN(n, capture_len) bytes are enough; bytes
+ *         beyond the trace are not touched.
+ * report  8 bytes: gets the length of the trace in four bytes, then in four how many frames were
+ *         resent, both high byte first. The count starts again from 0 after 4294967295.
+ *
+ * What is written is a trace, which replays; a capture without packets is a trace without bodies.
+ *
+ * Returns BELLACUSH_DONE. Otherwise out and report keep every byte. Tested in order: 8 (report
+ * other than 8 bytes), 1, 2, 5, 18, 7.
+ */
+uint32_t bellacush_import(uint32_t n, uint32_t mode, uint32_t i, uint32_t j,
+                          const uint8_t *capture, size_t capture_len,
+                          uint8_t *out, size_t out_len, uint8_t *report, size_t report_len);
 
 /*
  * Reads a configuration frame: copies the 8 bytes between type and check (req, pre, ben, qen,

@@ -1,0 +1,4 @@
+pub mod Records
+pub mod Trace
+pub mod Imports
+pub mod Worked

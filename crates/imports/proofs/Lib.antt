@@ -1,0 +1,16 @@
+pub mod Lists
+pub mod Blocks
+pub mod Cases
+pub mod Bodies
+pub mod Hosts
+pub mod Good
+pub mod Noting
+pub mod Placed
+pub mod Open
+pub mod Laid
+pub mod Along
+pub mod Lent
+pub mod Whole
+pub mod Files
+pub mod Unique
+pub mod Stepwise
