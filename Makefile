@@ -1,6 +1,7 @@
-# make            the proved library, the firmware demo and the replay of traces
+# make            the proved library, the firmware demo, the replay of traces and the import of captures
 # make run        play a shelf; ARGS="ports=8 slots=640" changes it, ARGS=help explains; ARGS="queues=960" plays the compact shelf
 #                 ARGS="trace=FILE" keeps its slots in a trace, and build/replay FILE prints their tables
+#                 build/import PORTS MODE I J CAPTURE TRACE makes a trace of a packet capture
 # make test       the gate: all proofs, then the Rust and C tests
 # make bench      measure the slot call against a plain Rust slot, and what it joins against maximum matching;
 #                 BEFORE=elsewhere/libbellacush.a against that archive too
@@ -24,6 +25,7 @@ FIRMWARE = target/staticlib/libbellacush.a
 FRAMES = target/staticlib/libframe_calls.a
 COLLECTORS = target/staticlib/libcollector_calls.a
 QUEUES = target/staticlib/libqueue_calls.a
+IMPORTS = target/staticlib/libimport_calls.a
 MEASURED = target/staticlib/libmeasured.a
 HEADER = include/bellacush.h
 SOURCES = crates.txt $(shell find crates -name '*.rt' -o -name '*.antt')
@@ -31,28 +33,28 @@ CARGO = BELLACUSH_ARCHIVE='$(abspath $(LIBRARY))' cargo
 
 .PHONY: all run test test-rust test-c bench before install clean
 
-all: $(LIBRARY) build/shelf build/compact build/replay
+all: $(LIBRARY) build/shelf build/compact build/replay build/import
 
-# The slot call, the frame calls, the collectors' calls, the queues, and what the tests and the benchmark link besides.
-$(FIRMWARE) $(FRAMES) $(COLLECTORS) $(QUEUES) $(MEASURED): target/staticlib/lib%.a: $(SOURCES)
+# The slot call, the frame calls, the collectors' calls, the queues, the import, and what the tests and the benchmark link besides.
+$(FIRMWARE) $(FRAMES) $(COLLECTORS) $(QUEUES) $(IMPORTS) $(MEASURED): target/staticlib/lib%.a: $(SOURCES)
 	rt staticlib $*
 	@touch $@
 
 # An object of its own keeps the slot call fast and its stack low: nothing else in it calls what the slot is made of.
-$(PROVED): $(FIRMWARE) $(FRAMES) $(COLLECTORS) $(QUEUES)
+$(PROVED): $(FIRMWARE) $(FRAMES) $(COLLECTORS) $(QUEUES) $(IMPORTS)
 	@mkdir -p build
-	printf 'create %s\naddlib %s\naddlib %s\naddlib %s\naddlib %s\nsave\nend\n' $@ $^ | ar -M
+	printf 'create %s\naddlib %s\naddlib %s\naddlib %s\naddlib %s\naddlib %s\nsave\nend\n' $@ $^ | ar -M
 
 build/shelf build/compact: build/%: firmware/%.c $(HEADER) $(LIBRARY)
 	@mkdir -p build
 	$(CC) -std=c99 $(WARNINGS) $(CFLAGS) -Iinclude -o $@ $< $(LIBRARY)
 
-# The program is proved as the library is.
-target/bin/replay: $(SOURCES)
-	rt check replay
+# The programs are proved as the library is.
+target/bin/replay target/bin/import: target/bin/%: $(SOURCES)
+	rt check $*
 	@touch $@
 
-build/replay: target/bin/replay
+build/replay build/import: build/%: target/bin/%
 	@mkdir -p build
 	cp $< $@
 
@@ -78,12 +80,18 @@ build/calls-cpp: tests/c/calls.c $(HEADER) $(LIBRARY)
 	@mkdir -p build
 	$(CXX) -std=c++11 $(WARNINGS) $(CXXFLAGS) -Iinclude -o $@ -x c++ $< -x none $(LIBRARY)
 
-test-c: build/calls-c build/calls-cpp build/shelf build/compact build/replay
+# Makes captures of traces, for the test of the import.
+build/capture: tests/c/capture.c
+	@mkdir -p build
+	$(CC) -std=c99 $(WARNINGS) $(CFLAGS) -o $@ $<
+
+test-c: build/calls-c build/calls-cpp build/shelf build/compact build/replay build/import build/capture
 	./build/calls-c
 	./build/calls-cpp
 	tests/c/shelf ./build/shelf
 	tests/c/compact ./build/compact
 	tests/c/replay ./build/shelf ./build/replay
+	tests/c/import ./build/shelf ./build/capture ./build/import
 
 # An archive to compare with: only its slot call is seen, under another name, so that both fit into one program.
 BEFORE ?=

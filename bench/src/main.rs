@@ -6,9 +6,11 @@ mod best;
 mod by_columns;
 mod central;
 mod feeds;
+mod imports;
 mod long_checks;
 mod plain;
 mod plain_check;
+mod plain_import;
 mod plain_ledger;
 mod plain_queues;
 #[cfg(plain_rule)]
@@ -57,6 +59,7 @@ fn main() {
     growth();
     feeds::section();
     queues::section();
+    imports::section();
     replays::section();
     central::section();
     #[cfg(plain_rule)]

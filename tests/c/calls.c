@@ -92,6 +92,13 @@ static void measures_of_a_trace_are_the_documents(void)
     CHECK(BELLACUSH_OFFSET == 2 && BELLACUSH_LENGTH == 3);
 }
 
+static void measures_of_a_capture_are_the_documents(void)
+{
+    CHECK(BELLACUSH_CAPTURE_HEADER_LEN == 24 && BELLACUSH_CAPTURE_RECORD_LEN == 32);
+    CHECK(BELLACUSH_REPORT_LEN == 8 && BELLACUSH_BAD_CAPTURE == 18);
+    CHECK(BELLACUSH_IMPORT_LEN(1 + 1, 24) == 5 && BELLACUSH_IMPORT_LEN(2, 24 + 64) == 5 + 2 * 37);
+}
+
 /* Ports 1 and 2 of three are operator 1's; what stands at or above n is ignored. */
 static void fresh_states(void)
 {
@@ -608,6 +615,99 @@ static void what_is_no_trace_is_not_written(void)
     CHECK(memcmp(out, r.file, sizeof out) == 0);
 }
 
+/* Four packets of two ports: the first slot is the last number there is, the second packet is
+   resent, and there is a gap before the last. */
+#define PACKETS 4
+
+struct captured {
+    uint8_t file[BELLACUSH_CAPTURE_HEADER_LEN + PACKETS * BELLACUSH_CAPTURE_RECORD_LEN];
+    uint8_t out[BELLACUSH_IMPORT_LEN(2, 24 + 32 * PACKETS)];
+    uint8_t report[BELLACUSH_REPORT_LEN + 1];
+};
+
+static void put_long(uint8_t *at, uint32_t number, int low_first)
+{
+    unsigned k;
+
+    for (k = 0; k < 4; k++)
+        at[low_first ? k : 3 - k] = (uint8_t)(number >> (8 * k));
+}
+
+static struct captured capture(int low_first)
+{
+    static const uint32_t slots[PACKETS] = {4294967295u, 4294967295u, 0, 5};
+    static const uint8_t hosts[PACKETS] = {1, 1, 0, 0}, values[PACKETS] = {11, 12, 13, 14};
+    struct captured c;
+    uint8_t *at = c.file + BELLACUSH_CAPTURE_HEADER_LEN;
+    unsigned k;
+
+    memset(&c, 0xB7, sizeof c);
+    put_long(c.file, 0xA1B2C3D4u, low_first);
+    put_long(c.file + 20, 147, low_first);
+    for (k = 0; k < PACKETS; k++, at += BELLACUSH_CAPTURE_RECORD_LEN) {
+        put_long(at + 8, 16, low_first);
+        put_long(at + 16, slots[k], 0);
+        at[20] = hosts[k];
+        memset(at + 21, values[k], BELLACUSH_CONFIG_LEN);
+    }
+    return c;
+}
+
+static uint32_t import(struct captured *c, uint32_t n, uint32_t mode, uint32_t i, uint32_t j)
+{
+    return bellacush_import(n, mode, i, j, c->file, sizeof c->file, c->out, sizeof c->out,
+                            c->report, BELLACUSH_REPORT_LEN);
+}
+
+static void a_capture_is_imported(int low_first)
+{
+    static const uint32_t starts[2] = {4294967295u, 5};
+    static const uint16_t slots[2] = {2, 1};
+    static const uint8_t report[8] = {0, 0, 0, 101, 0, 0, 0, 1};
+    struct captured c = capture(low_first);
+    uint8_t blocks[3 * BELLACUSH_BLOCK_LEN(2)], bodies[76], trace[101];
+
+    memset(blocks, 0, sizeof blocks);
+    memset(blocks + 11, 11, 11);
+    memset(blocks + 22, 13, 11);
+    memset(blocks + 44, 14, 11);
+    /* two slots are served before the gap, and none in it: (1, 0), (0, 1), (1, 1) */
+    CHECK(bellacush_seal_body(2, 2, 17, 1, 0, blocks, 44, bodies, 49) == BELLACUSH_DONE);
+    CHECK(bellacush_seal_body(2, 1, 17, 1, 1, blocks + 44, 22, bodies + 49, 27) == BELLACUSH_DONE);
+    CHECK(bellacush_write_trace(2, starts, 2, slots, 2, bodies, 76, trace, 101) == BELLACUSH_DONE);
+    CHECK(import(&c, 2, BELLACUSH_DIAGONAL, 1, 0) == BELLACUSH_DONE);
+    CHECK(memcmp(c.out, trace, sizeof trace) == 0 && c.out[101] == 0xB7);
+    CHECK(memcmp(c.report, report, sizeof report) == 0 && c.report[8] == 0xB7);
+}
+
+static void what_is_no_capture_is_refused(void)
+{
+    struct captured c = capture(1), kept = c;
+    const uint8_t *f = c.file;
+    size_t len = sizeof c.file, room = sizeof c.out;
+
+    CHECK(bellacush_import(0, 0, 0, 0, f, len, c.out, room, c.report, 7) == BELLACUSH_BAD_LEN);
+    CHECK(bellacush_import(2, 0, 0, 0, f, len, c.out, room, c.report, 9) == BELLACUSH_BAD_LEN);
+    CHECK(bellacush_import(2, 0, 0, 0, f, len, c.out, room, NULL, 0) == BELLACUSH_BAD_LEN);
+    CHECK(import(&c, 0, 18, 2, 2) == BELLACUSH_BAD_PORTS);
+    CHECK(import(&c, 17, 0, 0, 0) == BELLACUSH_BAD_PORTS);
+    CHECK(import(&c, 2, 18, 2, 0) == BELLACUSH_BAD_OFFSET);
+    CHECK(import(&c, 2, 0, 0, 4294967295u) == BELLACUSH_BAD_OFFSET);
+    CHECK(import(&c, 1, 18, 0, 0) == BELLACUSH_BAD_LIMIT);
+    CHECK(import(&c, 1, 0, 0, 0) == BELLACUSH_BAD_CAPTURE);
+    CHECK(bellacush_import(2, 0, 0, 0, f, len - 1, c.out, 0, c.report, 8) ==
+          BELLACUSH_BAD_CAPTURE);
+    CHECK(bellacush_import(2, 0, 0, 0, NULL, 0, c.out, room, c.report, 8) ==
+          BELLACUSH_BAD_CAPTURE);
+    CHECK(bellacush_import(2, 0, 0, 0, f, len, c.out, 100, c.report, 8) ==
+          BELLACUSH_OUT_TOO_SHORT);
+    CHECK(bellacush_import(2, 0, 0, 0, f, len, NULL, 0, c.report, 8) == BELLACUSH_OUT_TOO_SHORT);
+    put_long(c.file, 0xA1B23C4Du, 1); /* nanoseconds */
+    put_long(kept.file, 0xA1B23C4Du, 1);
+    CHECK(import(&c, 2, 0, 0, 0) == BELLACUSH_BAD_CAPTURE);
+    CHECK(memcmp(&c, &kept, sizeof c) == 0);
+}
+
 /* Two ports and three cells, with what a call may change and a copy as it was before. */
 struct compact {
     uint8_t state[BELLACUSH_STATE_LEN];
@@ -701,6 +801,7 @@ int main(void)
 {
     constants_are_the_documents();
     measures_of_a_trace_are_the_documents();
+    measures_of_a_capture_are_the_documents();
     fresh_states();
     operators_stay_apart();
     central_slot_is_served();
@@ -722,6 +823,9 @@ int main(void)
     what_is_no_body_is_not_replayed();
     what_is_no_body_is_not_sealed();
     what_is_no_trace_is_not_written();
+    a_capture_is_imported(0);
+    a_capture_is_imported(1);
+    what_is_no_capture_is_refused();
     queues_are_first_in_first_out();
     queues_that_are_refused_stay();
     printf("%u passed, %u failed\n", passed, failed);

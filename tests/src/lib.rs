@@ -2,6 +2,7 @@
 //! documents 01 and 02 promise of each, and random slots to hold one against the other.
 
 pub mod calls;
+pub mod captures;
 pub mod frames;
 pub mod ledger;
 pub mod lent;
