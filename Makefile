@@ -1,7 +1,8 @@
-# make            the proved library, the firmware demo, the replay of traces and the import of captures
+# make            the proved library, the firmware demo, the replay and the salvage of traces and the import of captures
 # make run        play a shelf; ARGS="ports=8 slots=640" changes it, ARGS=help explains; ARGS="queues=960" plays the compact shelf
 #                 ARGS="trace=FILE" keeps its slots in a trace, and build/replay FILE prints their tables
 #                 build/import PORTS MODE I J CAPTURE TRACE makes a trace of a packet capture
+#                 build/salvage FILE NEW keeps what is sound of a damaged trace
 # make test       the gate: all proofs, then the Rust and C tests
 # make bench      measure the slot call against a plain Rust slot, and what it joins against maximum matching;
 #                 BEFORE=elsewhere/libbellacush.a against that archive too
@@ -26,6 +27,7 @@ FRAMES = target/staticlib/libframe_calls.a
 COLLECTORS = target/staticlib/libcollector_calls.a
 QUEUES = target/staticlib/libqueue_calls.a
 IMPORTS = target/staticlib/libimport_calls.a
+SALVAGES = target/staticlib/libsalvage_calls.a
 MEASURED = target/staticlib/libmeasured.a
 HEADER = include/bellacush.h
 SOURCES = crates.txt $(shell find crates -name '*.rt' -o -name '*.antt')
@@ -33,28 +35,28 @@ CARGO = BELLACUSH_ARCHIVE='$(abspath $(LIBRARY))' cargo
 
 .PHONY: all run test test-rust test-c bench before install clean
 
-all: $(LIBRARY) build/shelf build/compact build/replay build/import
+all: $(LIBRARY) build/shelf build/compact build/replay build/import build/salvage
 
-# The slot call, the frame calls, the collectors' calls, the queues, the import, and what the tests and the benchmark link besides.
-$(FIRMWARE) $(FRAMES) $(COLLECTORS) $(QUEUES) $(IMPORTS) $(MEASURED): target/staticlib/lib%.a: $(SOURCES)
+# The slot call, the frame calls, the collectors' calls, the queues, the import, the salvage, and what the tests and the benchmark link besides.
+$(FIRMWARE) $(FRAMES) $(COLLECTORS) $(QUEUES) $(IMPORTS) $(SALVAGES) $(MEASURED): target/staticlib/lib%.a: $(SOURCES)
 	rt staticlib $*
 	@touch $@
 
 # An object of its own keeps the slot call fast and its stack low: nothing else in it calls what the slot is made of.
-$(PROVED): $(FIRMWARE) $(FRAMES) $(COLLECTORS) $(QUEUES) $(IMPORTS)
+$(PROVED): $(FIRMWARE) $(FRAMES) $(COLLECTORS) $(QUEUES) $(IMPORTS) $(SALVAGES)
 	@mkdir -p build
-	printf 'create %s\naddlib %s\naddlib %s\naddlib %s\naddlib %s\naddlib %s\nsave\nend\n' $@ $^ | ar -M
+	printf 'create %s\naddlib %s\naddlib %s\naddlib %s\naddlib %s\naddlib %s\naddlib %s\nsave\nend\n' $@ $^ | ar -M
 
 build/shelf build/compact: build/%: firmware/%.c $(HEADER) $(LIBRARY)
 	@mkdir -p build
 	$(CC) -std=c99 $(WARNINGS) $(CFLAGS) -Iinclude -o $@ $< $(LIBRARY)
 
 # The programs are proved as the library is.
-target/bin/replay target/bin/import: target/bin/%: $(SOURCES)
+target/bin/replay target/bin/import target/bin/salvage: target/bin/%: $(SOURCES)
 	rt check $*
 	@touch $@
 
-build/replay build/import: build/%: target/bin/%
+build/replay build/import build/salvage: build/%: target/bin/%
 	@mkdir -p build
 	cp $< $@
 
@@ -85,13 +87,14 @@ build/capture: tests/c/capture.c
 	@mkdir -p build
 	$(CC) -std=c99 $(WARNINGS) $(CFLAGS) -o $@ $<
 
-test-c: build/calls-c build/calls-cpp build/shelf build/compact build/replay build/import build/capture
+test-c: build/calls-c build/calls-cpp build/shelf build/compact build/replay build/import build/capture build/salvage
 	./build/calls-c
 	./build/calls-cpp
 	tests/c/shelf ./build/shelf
 	tests/c/compact ./build/compact
 	tests/c/replay ./build/shelf ./build/replay
 	tests/c/import ./build/shelf ./build/capture ./build/import
+	tests/c/salvage ./build/shelf ./build/replay ./build/salvage
 
 # An archive to compare with: only its slot call is seen, under another name, so that both fit into one program.
 BEFORE ?=

@@ -14,8 +14,8 @@
  *    or uint16_t, as many words of that type, aligned as it asks. A null pointer is not to be
  *    lent with a length other than 0.
  *  - Nothing that a call may write (state, out, table, tables, part, ledger of a feed, figures,
- *    shown, place, report, records but of a count, pool of an add) overlaps anything else that is
- *    lent to the same call.
+ *    shown, place, report, fates, records but of a count, pool of an add) overlaps anything else
+ *    that is lent to the same call.
  *  - No other thread touches what is lent before the call returns. Calls on separate memory
  *    may run at the same time.
  * Nothing else is asked: any lengths, bytes, words and numbers are answered as said below.
@@ -51,6 +51,7 @@ extern "C" {
 #define BELLACUSH_RECORDS_LEN(cells) ((size_t)3 + (cells)) /* the queues' records of so many cells */
 #define BELLACUSH_HEAD_WORDS 2    /* what is shown of a trace */
 #define BELLACUSH_BODY_WORDS 4    /* what is shown of one of its bodies */
+#define BELLACUSH_SALVAGE_WORDS 2 /* what is shown of a salvage */
 
 /* The measures of a trace: how many bodies it has at most, how many slots a body; in bytes, its
    first two fields, its contents with so many bodies, and a body of so many slots of n ports. */
@@ -97,6 +98,16 @@ extern "C" {
 #define BELLACUSH_OFFSET 2 /* where in the file it starts */
 #define BELLACUSH_LENGTH 3 /* how many bytes it has */
 
+/* The places of what is shown of a salvage. */
+#define BELLACUSH_NEW_LENGTH 0 /* how many bytes the new trace has */
+#define BELLACUSH_OLD_BODIES 1 /* the body count of the file, 0 to 1024 */
+
+/* What becomes of a body of a damaged trace: it is kept, or dropped for the first of these. */
+#define BELLACUSH_KEPT 0
+#define BELLACUSH_SHORT 1 /* the file ends before it does */
+#define BELLACUSH_CHECK 2 /* its check differs */
+#define BELLACUSH_FORM 3  /* its mode is above 17, or its I or J at or above n */
+
 /*
  * The numbers that calls return: 0, or why a call declined.
  *
@@ -117,10 +128,10 @@ enum bellacush_number {
     BELLACUSH_OUT_TOO_SHORT = 7,    /* output below 7 n for a slot, 64 n for one of the queues,
                                        11 or 7 for one frame; for a
                                        trace or body, below its length; for tables, below 32
-                                       for each slot */
+                                       for each slot; for fates, below 1 for each body */
     BELLACUSH_BAD_LEN = 8,          /* a state, table, frame, part, ledger, figures, operator
                                        numbers, cell, records of new queues, report, or words to
-                                       show of a trace or body, of another length */
+                                       show of a trace, body or salvage, of another length */
     BELLACUSH_BAD_TYPE = 9,         /* frame type other than asked for */
     BELLACUSH_BAD_CHECK = 10,       /* the frame's check differs */
     BELLACUSH_BAD_GRANT_FIELD = 11, /* bits 3 to 7 of the flags set, nodeId above 15, gntVal
@@ -129,7 +140,8 @@ enum bellacush_number {
     BELLACUSH_BAD_LEDGER = 13,      /* 4294967295 slots are counted already, or a figure of the
                                        ledger is above its slots counted */
     BELLACUSH_BAD_TRACE = 14,       /* anything that departs from the layout of a trace, or a
-                                       body number at or above the count */
+                                       body number at or above the count; for a salvage, only
+                                       what departs from it in the contents */
     BELLACUSH_BAD_OPERATOR = 15,    /* an operator number above 1 on a port below n */
     BELLACUSH_QUEUES_FULL = 16,     /* every cell of the pool holds a queued cell */
     BELLACUSH_BAD_QUEUES = 17,      /* initiator or target at or above n, a pool of other than 1
@@ -492,6 +504,29 @@ uint32_t bellacush_write_trace(uint32_t n, const uint32_t *firsts, size_t firsts
 uint32_t bellacush_import(uint32_t n, uint32_t mode, uint32_t i, uint32_t j,
                           const uint8_t *capture, size_t capture_len,
                           uint8_t *out, size_t out_len, uint8_t *report, size_t report_len);
+
+/*
+ * Salvages a damaged trace: writes a new trace of just the sound bodies of file to out.
+ *
+ * file   any bytes. If the contents and their check are correct, every body that is complete,
+ *        of proper form and with a right check is kept, unchanged and in order, with its first
+ *        slot and its slots; each other one is dropped, and so are bytes after the last body.
+ * out    gets the new trace in its first shown[BELLACUSH_NEW_LENGTH] bytes; bytes beyond are not
+ *        touched. The new trace is never longer than file.
+ * fates  gets a byte for each body of file: BELLACUSH_KEPT, or why it is dropped, tested in the
+ *        order BELLACUSH_SHORT, BELLACUSH_CHECK, BELLACUSH_FORM. Bytes from
+ *        shown[BELLACUSH_OLD_BODIES] on are not touched; 1024 bytes are enough for any file.
+ * shown  2 words, in the order of BELLACUSH_NEW_LENGTH and BELLACUSH_OLD_BODIES.
+ *
+ * What is written is a trace; each of its bodies is replayed as in the file. Of a trace all bodies
+ * are kept, and it comes back byte for byte; so salvaging twice gives what salvaging once gave.
+ *
+ * Returns BELLACUSH_DONE. Otherwise out, fates and shown keep every byte and word. Tested in
+ * order: 8 (shown other than 2 words), 14 (the contents or their check are wrong), 7 (fates has
+ * fewer bytes than file has bodies, or out than the new trace).
+ */
+uint32_t bellacush_salvage(const uint8_t *file, size_t file_len, uint8_t *out, size_t out_len,
+                           uint8_t *fates, size_t fates_len, uint32_t *shown, size_t shown_len);
 
 /*
  * Reads a configuration frame: copies the 8 bytes between type and check (req, pre, ben, qen,

@@ -708,6 +708,70 @@ static void what_is_no_capture_is_refused(void)
     CHECK(memcmp(&c, &kept, sizeof c) == 0);
 }
 
+/* A trace of one port and five bodies of a slot each: kept, check, form, kept, short. */
+static void a_damaged_trace_is_salvaged(void)
+{
+    static const uint8_t contents[55] = {
+        1, 0, 5, 0, 0, 0, 100, 0, 1, 0, 0, 0, 55, 0, 0, 0, 7, 0, 1, 0, 0, 0, 71, 0, 0, 0, 8, 0, 1,
+        0, 0, 0, 87, 255, 255, 255, 255, 0, 1, 0, 0, 0, 103, 0, 0, 0, 10, 0, 1, 0, 0, 0, 119, 223,
+        104};
+    static const uint8_t bodies[5][16] = {{0, 0, 0, 7, 7, 7, 7, 7, 7, 7, 7, 7, 7, 7, 97, 130},
+                                          {18, 0, 0, 9, 9, 9, 9, 9, 9, 9, 9, 9, 9, 9, 208, 71},
+                                          {18, 0, 0, 9, 9, 9, 9, 9, 9, 9, 9, 9, 9, 9, 208, 70},
+                                          {17, 0, 0, 5, 5, 5, 5, 5, 5, 5, 5, 5, 5, 5, 129, 228},
+                                          {0}};
+    static const uint8_t new_contents[25] = {1, 0, 2, 0, 0, 0, 100, 0, 1, 0, 0, 0, 25,
+                                             255, 255, 255, 255, 0, 1, 0, 0, 0, 41, 81, 5};
+    static const uint8_t told[6] = {BELLACUSH_KEPT, BELLACUSH_CHECK, BELLACUSH_FORM,
+                                    BELLACUSH_KEPT, BELLACUSH_SHORT, 9};
+    uint8_t file[55 + 80], out[58], fates[6];
+    uint32_t shown[2] = {7, 7};
+
+    memcpy(file, contents, 55);
+    memcpy(file + 55, bodies, 80);
+    memset(out, 0xB7, sizeof out);
+    memset(fates, 9, sizeof fates);
+    CHECK(bellacush_salvage(file, 134, out, 58, fates, 6, shown, 2) == BELLACUSH_DONE);
+    CHECK(shown[BELLACUSH_NEW_LENGTH] == 57 && shown[BELLACUSH_OLD_BODIES] == 5);
+    CHECK(memcmp(out, new_contents, 25) == 0 && memcmp(out + 25, bodies[0], 16) == 0);
+    CHECK(memcmp(out + 41, bodies[3], 16) == 0 && out[57] == 0xB7);
+    CHECK(memcmp(fates, told, sizeof told) == 0);
+}
+
+static void a_trace_comes_back_from_its_salvage(void)
+{
+    struct recorded r = record();
+    uint8_t out[102], fates[2] = {9, 9};
+    uint32_t shown[2] = {7, 7};
+
+    memset(out, 0xB7, sizeof out); /* as the byte behind the trace */
+    CHECK(bellacush_salvage(r.file, 102, out, 102, fates, 2, shown, 2) == BELLACUSH_DONE);
+    CHECK(memcmp(out, r.file, sizeof out) == 0);
+    CHECK(shown[BELLACUSH_NEW_LENGTH] == 101 && shown[BELLACUSH_OLD_BODIES] == 2);
+    CHECK(fates[0] == BELLACUSH_KEPT && fates[1] == BELLACUSH_KEPT);
+}
+
+static void what_has_no_contents_is_not_salvaged(void)
+{
+    struct recorded r = record();
+    uint8_t out[101], kept[101], fates[2] = {9, 9};
+    uint32_t shown[3] = {7, 7, 7};
+
+    memset(out, 0xB7, sizeof out);
+    memcpy(kept, out, sizeof kept);
+    CHECK(bellacush_salvage(r.file, 24, out, 101, fates, 2, shown, 3) == BELLACUSH_BAD_LEN);
+    CHECK(bellacush_salvage(r.file, 101, out, 101, fates, 2, NULL, 0) == BELLACUSH_BAD_LEN);
+    CHECK(bellacush_salvage(NULL, 0, out, 101, fates, 2, shown, 2) == BELLACUSH_BAD_TRACE);
+    CHECK(bellacush_salvage(r.file, 24, out, 101, fates, 1, shown, 2) == BELLACUSH_BAD_TRACE);
+    CHECK(bellacush_salvage(r.file, 101, out, 101, fates, 1, shown, 2) == BELLACUSH_OUT_TOO_SHORT);
+    CHECK(bellacush_salvage(r.file, 101, out, 100, fates, 2, shown, 2) == BELLACUSH_OUT_TOO_SHORT);
+    CHECK(bellacush_salvage(r.file, 101, NULL, 0, NULL, 0, shown, 2) == BELLACUSH_OUT_TOO_SHORT);
+    r.file[24] ^= 1;
+    CHECK(bellacush_salvage(r.file, 101, out, 101, fates, 2, shown, 2) == BELLACUSH_BAD_TRACE);
+    CHECK(memcmp(out, kept, sizeof out) == 0);
+    CHECK(fates[0] == 9 && fates[1] == 9 && shown[0] == 7 && shown[1] == 7);
+}
+
 /* Two ports and three cells, with what a call may change and a copy as it was before. */
 struct compact {
     uint8_t state[BELLACUSH_STATE_LEN];
@@ -826,6 +890,9 @@ int main(void)
     a_capture_is_imported(0);
     a_capture_is_imported(1);
     what_is_no_capture_is_refused();
+    a_damaged_trace_is_salvaged();
+    a_trace_comes_back_from_its_salvage();
+    what_has_no_contents_is_not_salvaged();
     queues_are_first_in_first_out();
     queues_that_are_refused_stay();
     printf("%u passed, %u failed\n", passed, failed);

@@ -157,6 +157,16 @@ extern "C" {
         out: *mut c_uchar,
         out_len: usize,
     ) -> u32;
+    fn bellacush_salvage(
+        file: *const c_uchar,
+        file_len: usize,
+        out: *mut c_uchar,
+        out_len: usize,
+        fates: *mut c_uchar,
+        fates_len: usize,
+        shown: *mut u32,
+        shown_len: usize,
+    ) -> u32;
 }
 
 /// The library's slot call itself, for those who call it in a way of their own.
@@ -386,6 +396,21 @@ pub fn write_trace(n: u32, firsts: &[u32], slots: &[u16], bodies: &[u8], out: &m
             bodies.len(),
             out.as_mut_ptr(),
             out.len(),
+        )
+    }
+}
+
+pub fn salvage(file: &[u8], out: &mut [u8], fates: &mut [u8], shown: &mut [u32]) -> u32 {
+    unsafe {
+        bellacush_salvage(
+            file.as_ptr(),
+            file.len(),
+            out.as_mut_ptr(),
+            out.len(),
+            fates.as_mut_ptr(),
+            fates.len(),
+            shown.as_mut_ptr(),
+            shown.len(),
         )
     }
 }

@@ -11,6 +11,7 @@ pub mod measured;
 pub mod promises;
 pub mod queues;
 pub mod random;
+pub mod salvages;
 pub mod scheduler;
 pub mod slots;
 pub mod trace_calls;

@@ -170,6 +170,12 @@ pub struct Contents {
 impl Contents {
     /// Of a file of so many bytes, which starts with these.
     pub fn read(start: &[u8], file_len: usize) -> Option<Contents> {
+        let (contents, end) = Contents::found(start)?;
+        (end == file_len).then_some(contents)
+    }
+
+    /// Whatever follows them, and where their last body is to end.
+    pub fn found(start: &[u8]) -> Option<(Contents, usize)> {
         let mut rest = start;
         let ports = number(&mut rest, 1)?;
         let count = number(&mut rest, 2)?;
@@ -188,8 +194,7 @@ impl Contents {
             entries.push(entry);
         }
         number(&mut rest, 2)?;
-        let whole = check_is_right(&start[..ends[0]]) && ends[count] == file_len;
-        whole.then_some(Contents { ports, entries })
+        check_is_right(&start[..ends[0]]).then(|| (Contents { ports, entries }, ends[count]))
     }
 }
 

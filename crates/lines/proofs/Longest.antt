@@ -29,12 +29,12 @@ digits-most (suc k) (suc w) x h = go (ltb x 10) (decimalIn w (x / 10)) (digits-m
     go true rest fewer = omega arith
     go false rest fewer = rw (length-append rest ((48 + x % 10) ∷ [])) (omega arith)
 
-parts-most : (f : ℕ → List ℕ) (w n : ℕ) → ((i : ℕ) → i < n → length (f i) ≤ w) → length (parts f n) ≤ n * w
+pub parts-most : (f : ℕ → List ℕ) (w n : ℕ) → ((i : ℕ) → i < n → length (f i) ≤ w) → length (parts f n) ≤ n * w
 unfolding steps
 parts-most f w zero h = omega arith
 parts-most f w (suc n) h = rw (length-append (parts f n) (f n), suc-mul n w) (omega (arith, parts-most f w n (λ i l. h i (omega arith)), h n (omega arith)))
 
-number-most : (k x : ℕ) → x < 10 ^ suc k → length (decimal x) ≤ suc k
+pub number-most : (k x : ℕ) → x < 10 ^ suc k → length (decimal x) ≤ suc k
 unfolding decimal
 number-most k x h = digits-most k (suc x) x h
 

@@ -13,7 +13,8 @@ use words::holds;
 // No line of a slot is longer.
 pub const LONGEST: usize = 1024;
 
-fn put_byte(out: &mut [u8], at: usize, b: u8) -> usize
+// Puts a byte, a text or a number in decimal into the bytes from `at` on, and says where it ends.
+pub fn put_byte(out: &mut [u8], at: usize, b: u8) -> usize
     ensures { λ r. ⌜ Put (now (out .entry)) at (b ∷ []) (now (out .exit)) r ⌝ }
 {
     if at < out.len() {
@@ -23,7 +24,7 @@ fn put_byte(out: &mut [u8], at: usize, b: u8) -> usize
     at
 }
 
-fn put_text(out: &mut [u8], at: usize, text: &[u8]) -> usize
+pub fn put_text(out: &mut [u8], at: usize, text: &[u8]) -> usize
     ensures { λ r. ⌜ Put (now (out .entry)) at (now (text .entry)) (now (out .exit)) r ⌝ }
 {
     let mut end = at;
@@ -33,7 +34,7 @@ fn put_text(out: &mut [u8], at: usize, text: &[u8]) -> usize
     end
 }
 
-fn put_number(out: &mut [u8], at: usize, x: u64) -> usize
+pub fn put_number(out: &mut [u8], at: usize, x: u64) -> usize
     ensures { λ r. ⌜ Put (now (out .entry)) at (decimal x) (now (out .exit)) r ⌝ }
 {
     let mut digits = [0u8; 20];

@@ -1,3 +1,4 @@
 pub mod Recorded
 pub mod Replay
 pub mod Serving
+pub mod Kept

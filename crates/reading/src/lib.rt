@@ -1,10 +1,10 @@
-// A trace, read from a file from front to back: its contents, then a body at a time.
+// A trace, read from a file: its contents, then a body at a time.
 ghost use Prim.Native.Nat.{_≤_};
 ghost use lib.ListN.{length};
 use libc::SEEK_SET;
 use trace_parts::Layout;
 
-// Reads the contents, and says how many bytes they have: none where they are cut or too many.
+// Reads the start of a file that holds its contents: three bytes, and as many in all as they say. Says how many it had.
 pub fn read_contents(fd: i32, buf: &mut [u8]) -> usize
     ensures { λ r. ⌜ r ≤ length (now (buf .entry)) ⌝ }
 {
@@ -12,8 +12,8 @@ pub fn read_contents(fd: i32, buf: &mut [u8]) -> usize
         return 0;
     }
     let mut head = [0u8; Layout::HEAD];
-    io::read_full(fd, &mut head);
-    let size = trace_parts::contents_size(&head);
+    let got = io::read_full(fd, &mut head);
+    let size = trace_parts::contents_size(&head[..got]);
     bytes::copy(&head, buf);
     if size < Layout::HEAD {
         return 0;
@@ -21,16 +21,25 @@ pub fn read_contents(fd: i32, buf: &mut [u8]) -> usize
     if buf.len() < size {
         return 0;
     }
-    let more = io::read_full(fd, &mut buf[Layout::HEAD..size]);
-    if more != size - Layout::HEAD {
-        return 0;
-    }
-    size
+    Layout::HEAD + io::read_full(fd, &mut buf[Layout::HEAD..size])
 }
 
 // Fills the bytes with the next of the file, and says whether it had so many.
 pub fn read_body(fd: i32, body: &mut [u8]) -> bool {
     io::read_full(fd, body) == body.len()
+}
+
+// Reads len bytes from byte `at` of the file on, and says how many it had: what cannot be read counts as not there.
+pub fn read_at(fd: i32, at: u32, len: usize, buf: &mut [u8]) -> usize
+    ensures { λ r. ⌜ r ≤ length (now (buf .entry)) ⌝ }
+{
+    if buf.len() < len {
+        return 0;
+    }
+    if libc::lseek(fd, at as i64, SEEK_SET) != at as i64 {
+        return 0;
+    }
+    io::read_full(fd, &mut buf[..len])
 }
 
 // Whether the file ends here.

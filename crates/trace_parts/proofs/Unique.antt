@@ -17,6 +17,7 @@ use Rattle.trace_parts.proofs.contents.contents_head.Reads as contents-
 use Rattle.trace_parts.proofs.contents.file_head.Reads as file-head
 use Rattle.trace_parts.proofs.contents.read_entry.Reads as read-entry
 use Rattle.trace_parts.proofs.body.formed.Reads as formed
+use Rattle.trace_parts.proofs.body.complete.Reads as complete
 use Rattle.trace_parts.proofs.body.body_sound.Reads as body-sound
 use Rattle.trace_parts.proofs.body.sound_from.Reads as sound-from
 use Rattle.trace_parts.proofs.body.read_fields.Reads as read-fields
@@ -48,6 +49,9 @@ read-entry-once κs a r s x y p q = the-result p q
 
 pub formed-once : (κs a : _) (r s : Bool) (x y : _) → formed.Learnt κs a r x → formed.Learnt κs a s y → r ≡ s
 formed-once κs a r s x y p q = the-result p q
+
+pub complete-once : (κs a : _) (r s : Bool) (x y : _) → complete.Learnt κs a r x → complete.Learnt κs a s y → r ≡ s
+complete-once κs a r s x y p q = the-result p q
 
 pub body-sound-once : (κs a : _) (r s : Bool) (x y : _) → body-sound.Learnt κs a r x → body-sound.Learnt κs a s y → r ≡ s
 body-sound-once κs a r s x y p q = the-result p q

@@ -84,3 +84,7 @@ readEntry m s k = entryIf (hasEntry m s k) s k
 -- the bytes of the contents that start so; 0 where the count is not there or too great
 unfoldable pub contentsSize : List ℕ → ℕ
 contentsSize s = cond (leb headLen (length s) && leb (countOf s) mostBodies) (contentsEnd s) 0
+
+-- the start of a file that a program reads first: three bytes, and as many in all as they say
+abbrev pub startRead : List ℕ → List ℕ
+startRead s = take (contentsSize (take headLen s)) s

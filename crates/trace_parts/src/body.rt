@@ -46,8 +46,8 @@ pub fn formed(n: usize, f: Fields) -> bool
     (f.mode as usize <= most_mode(n)) & ((f.initiator < n) & (f.target < n))
 }
 
-// Whether these are as many bytes as such a body has.
-fn complete(n: usize, slots: u16, body: &[u8]) -> bool
+// Whether these are as many bytes as a body of so many slots has, for n ports.
+pub fn complete(n: usize, slots: u16, body: &[u8]) -> bool
     ensures { λ r. ⌜ r ≡ complete mostPorts n slots (now (body .entry)) ⌝ }
 {
     if ports_sound(n) {

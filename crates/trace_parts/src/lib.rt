@@ -7,6 +7,7 @@ mod number;
 pub use body::Fields;
 pub use body::FieldsRead;
 pub use body::body_sound;
+pub use body::complete;
 pub use body::formed;
 pub use body::read_fields;
 pub use body::slot_block;

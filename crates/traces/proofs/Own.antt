@@ -1,27 +1,23 @@
 -- A trace is told from its contents, its length and a body at a time, and so are its entries. `start` is a front of the file
 -- that holds the contents; each body is the part that its entry names. So a program that holds no more than the contents and
 -- one body decides as the calls on the whole file do.
-use mathlib.Core.Path.{_≡_, refl, sym, ap, _∙_}
-use mathlib.Core.Bool.{Bool, true, false, _&&_, cond, true≢false}
-use mathlib.Core.List.{List, []}
+use mathlib.Core.Path.{_≡_, refl, ap, _∙_}
+use mathlib.Core.Bool.{Bool, true, false, _&&_}
+use mathlib.Core.List.{List}
 use Prim.Native.Nat.{ℕ, _≤_}
 use native.Mathlib.Omega.{arith}
-use lib.Dec.{ltb, leb}
+use lib.Dec.{ltb}
 use lib.ListN.{length, take}
-use borrow.Author.Tests.{le-leb, ltb-true}
-use Rattle.laws.specs.Bytes.{numberFrom}
+use borrow.Author.Tests.{ltb-true}
 use Rattle.laws.specs.Parts.{part}
 use Rattle.laws.specs.Steps.{every}
 use Rattle.laws.proofs.Every.{every-same}
-use Rattle.laws.proofs.Tests.{both, refuted}
-use Rattle.laws.proofs.Tests as tests
-use Rattle.trace_parts.specs.Layout.{mostBodies}
-use Rattle.trace_parts.specs.Contents.{portsOf, countOf, entryOf, entryBody, contentsEnd, contentsSound, contentsFit, fileHead, readEntry, entryIf, contentsSize}
+use Rattle.laws.proofs.Tests.{both}
+use Rattle.trace_parts.specs.Contents.{portsOf, countOf, entryOf, entryBody, contentsEnd, contentsSound, contentsFit, fileHead, readEntry, entryIf, startRead}
 use Rattle.trace_parts.specs.Body.{bodySound}
 use Rattle.trace_parts.proofs.ContentsLaws.{has-known, contents}
-use Rattle.trace_parts.proofs.ContentsOwn.{size-own, ports-own, count-own, entry-own, contents-own, fit-own}
+use Rattle.trace_parts.proofs.ContentsOwn.{ports-own, count-own, entry-own, contents-own, fit-own, start-is, start-own}
 use Rattle.traces.specs.Trace.{bodyAt, soundAt, traceSound, traceHead, hasBody, traceEntry}
-use Rattle.traces.proofs.TraceLaws.{trace}
 
 -- body k of the file, and whether the file is a trace, both told by a start of it
 abbrev bodyBy : List ℕ → List ℕ → ℕ → List ℕ
@@ -55,26 +51,11 @@ module _ (m : ℕ) (s : List ℕ) (e : ℕ) (h : contentsEnd s ≤ e) where
       go true l = rw (entry-own s e h k (ltb-true k (countOf s) l), ports-own s e h)
       go false l = refl
 
--- no bytes hold contents
-empty-start : (m : ℕ) (s : List ℕ) → soundBy m [] s ≡ false
-unfolding contentsFit contentsSound countOf numberFrom
-empty-start m s = refl
-
--- the start that a program reads: three bytes, and as many in all as they say
-abbrev startOf : List ℕ → List ℕ
-startOf s = take (contentsSize (take 3 s)) s
-
-pub trace-read : (m : ℕ) (s : List ℕ) → traceSound m s ≡ soundBy m (startOf s) s
-unfolding contentsSize
-trace-read m s = rw (size-own s) (go (leb 3 (length s) && leb (countOf s) mostBodies) refl)
+-- with the start that a program reads
+pub trace-read : (m : ℕ) (s : List ℕ) → traceSound m s ≡ soundBy m (startRead s) s
+unfolding traceSound contentsFit
+trace-read m s = go (contentsSound m s) refl
   where
-    none : leb 3 (length s) && leb (countOf s) mostBodies ≡ false → traceSound m s ≡ false
-    none q =
-        refuted (traceSound m s)
-        (λ t.
-        let c = trace m s t .contents in
-        true≢false (sym (tests.every (le-leb 3 (length s) (omega (arith, c .long))) (le-leb (countOf s) mostBodies (c .count))) ∙ q))
-
-    go : (b : Bool) → leb 3 (length s) && leb (countOf s) mostBodies ≡ b → traceSound m s ≡ soundBy m (take (cond b (contentsEnd s) 0) s) s
-    go true q = trace-own m s (contentsEnd s) (omega arith)
-    go false q = none q ∙ sym (empty-start m s)
+    go : (b : Bool) → contentsSound m s ≡ b → traceSound m s ≡ soundBy m (startRead s) s
+    go true e = rw (start-is m s e) (trace-own m s (contentsEnd s) (omega arith))
+    go false e = rw (start-own m s, e)

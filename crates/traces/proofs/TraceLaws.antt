@@ -32,11 +32,11 @@ trace m s e =
 -- ---- what the calls go by
 
 -- a head that shows no number is of a test that holds
-head-shown : (b : Bool) (s : List ℕ) → headIf b s .number ≡ 0 → b ≡ true
+pub head-shown : (b : Bool) (s : List ℕ) → headIf b s .number ≡ 0 → b ≡ true
 head-shown true s e = refl
 head-shown false s e = absurd (omega arith)
 
-head-declined : (b : Bool) (s : List ℕ) → (headIf b s .number ≡ 0 → ⊥) → b ≡ false
+pub head-declined : (b : Bool) (s : List ℕ) → (headIf b s .number ≡ 0 → ⊥) → b ≡ false
 head-declined true s f = absurd (f refl)
 head-declined false s f = refl
 

@@ -1,0 +1,2 @@
+pub mod Fate
+pub mod Judged

@@ -1,0 +1,5 @@
+pub mod Salvages
+pub mod Behind
+pub mod Shorter
+pub mod Calls
+pub mod Own

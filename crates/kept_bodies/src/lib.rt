@@ -1,0 +1,1 @@
+// What the salvage of a damaged trace keeps, of a whole file and body by body, as theorems.

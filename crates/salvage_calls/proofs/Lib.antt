@@ -1,0 +1,3 @@
+pub mod Salvages
+pub mod Worked
+pub mod Unique

@@ -1,0 +1,4 @@
+pub mod Longest
+pub mod Told
+pub mod Unique
+pub mod Worked
