@@ -15,9 +15,11 @@ mod plain_ledger;
 mod plain_queues;
 #[cfg(plain_rule)]
 mod plain_rule;
+mod plain_salvage;
 mod queue_stacks;
 mod queues;
 mod replays;
+mod salvages;
 mod stack;
 mod timing;
 mod traces;
@@ -61,6 +63,7 @@ fn main() {
     queues::section();
     imports::section();
     replays::section();
+    salvages::section();
     central::section();
     #[cfg(plain_rule)]
     plain_rule::section();
