@@ -12,7 +12,7 @@ fn operators_of(bytes: &[u8]) -> [u8; State::MOST]
     ensures { result ≡ bytes.now }
 {
     let mut operators = [0; State::MOST];
-    bytes::copy(bytes, &mut operators);
+    copying::copy(bytes, &mut operators);
     operators
 }
 
@@ -33,6 +33,6 @@ pub extern "C" fn bellacush_fresh(n: u32, due: u32, operators: &[u8], state: &mu
     }
     let fresh = made.state;
     let bytes = state_bytes(fresh);
-    bytes::copy(&bytes, state);
+    copying::copy(&bytes, state);
     0
 }

@@ -26,7 +26,7 @@ fn store(stepped: Stepped, state: &mut [u8], table: &mut [u8])
         return;
     }
     let bytes = state_bytes(next);
-    bytes::copy(&bytes, state);
+    copying::copy(&bytes, state);
     put_table(sets, table);
 }
 

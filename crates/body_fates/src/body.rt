@@ -3,7 +3,7 @@ ghost use Rattle.std.specs.Prelude.{◌≡◌};
 ghost use Rattle.frames.specs.Part.{most_ports};
 ghost use Rattle.body_fates.specs.Fate.{fate};
 
-#[derive(Drop)]
+#[derive(Clone, Copy)]
 pub struct Fate {}
 
 impl Fate {

@@ -8,7 +8,7 @@ use crate::body::{Fate, body_fate};
 use trace_parts::Layout;
 
 // How many bodies were judged, and the fate of each; how many of them are kept, and the first slots and slot counts of these.
-#[derive(Drop)]
+#[derive(Clone, Copy)]
 pub struct Judged {
     pub bodies: usize,
     pub fates: [u8; Layout::BODIES],

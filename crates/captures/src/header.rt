@@ -5,7 +5,7 @@ ghost use Rattle.captures.specs.Capture.{header_len, is_low, header_sound, heade
 use crate::number::long_in;
 
 // Whether the file's numbers have their low byte first, or number 18.
-#[derive(Drop)]
+#[derive(Clone, Copy)]
 pub struct HeaderRead {
     pub number: u8,
     pub low: bool,

@@ -6,7 +6,7 @@ use crate::number::long_in;
 use frames::Config;
 
 // The captured length, the slot and the host.
-#[derive(Drop)]
+#[derive(Clone, Copy)]
 pub struct Packet {
     pub captured: u32,
     pub slot: u32,

@@ -67,7 +67,7 @@ fn contend(among: Set, numbers: &Counts, n: usize, from: usize, k: usize, best: 
 }
 
 // The members still to come, a bit for each place of the rotation after those passed, and the best of those passed.
-#[derive(Drop)]
+#[derive(Clone, Copy)]
 pub struct Scan {
     pub left: Moved,
     pub passed: usize,

@@ -2,14 +2,14 @@
 use ports::Table;
 
 // The live requests and the targets held, a row for each initiator.
-#[derive(Drop)]
+#[derive(Clone, Copy)]
 pub struct Work {
     pub live: Table,
     pub held: Table,
 }
 
 // And the rounds so far.
-#[derive(Drop)]
+#[derive(Clone, Copy)]
 pub struct Run {
     pub work: Work,
     pub rounds: u8,

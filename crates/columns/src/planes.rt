@@ -3,7 +3,7 @@ ghost use Rattle.std.specs.Prelude.{◌≡◌, ◌<◌};
 ghost use Rattle.columns.specs.Planes.{more, less, narrow, least, winner};
 ghost use Rattle.laws.specs.Sets.{has};
 
-#[derive(Drop)]
+#[derive(Clone, Copy)]
 pub struct Planes {
     pub ones: u32,
     pub twos: u32,

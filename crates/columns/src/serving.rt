@@ -15,14 +15,14 @@ use choices::{Work, place_of};
 use ports::{State, Table, orderly};
 
 // The unmatched initiators, and the number of targets still to come that each asks for.
-#[derive(Drop)]
+#[derive(Clone, Copy)]
 pub struct Board {
     pub free: u32,
     pub planes: Planes,
 }
 
 // A served target with its winner; if nobody asked, none is joined.
-#[derive(Drop)]
+#[derive(Clone, Copy)]
 pub struct Served {
     pub board: Board,
     pub target: usize,

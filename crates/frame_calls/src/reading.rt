@@ -55,7 +55,7 @@ fn show_part(len: usize, number: u8, frame: &[u8], part: &mut [u8]) -> u32
         return number as u32;
     }
     let end = len - 2;
-    bytes::copy(&frame[1..end], part);
+    copying::copy(&frame[1..end], part);
     0
 }
 

@@ -7,7 +7,7 @@ ghost use Rattle.frames.specs.Config.{config_len, config_frame, config_of, confi
 use crate::frame::{Form, open, put};
 use words::two_bytes;
 
-#[derive(Drop)]
+#[derive(Clone, Copy)]
 pub struct Config {
     pub req: u16,
     pub pre: u16,
@@ -16,7 +16,7 @@ pub struct Config {
 }
 
 // What reading a configuration frame answers.
-#[derive(Drop)]
+#[derive(Clone, Copy)]
 pub enum ConfigRead {
     Frame(Config),
     WrongLength,

@@ -2,7 +2,7 @@
 ghost use Rattle.std.specs.Prelude.{◌≡◌, ◌≤◌, length};
 ghost use Rattle.frames.specs.Frame.{form_number, form_answer, room_number, written};
 
-#[derive(Drop)]
+#[derive(Clone, Copy)]
 pub(crate) enum Form {
     Sound,
     WrongLength,
@@ -34,6 +34,6 @@ pub(crate) fn put(frame: &[u8], out: &mut [u8]) -> u8
     if out.len() < frame.len() {
         return 7;
     }
-    bytes::copy(frame, out);
+    copying::copy(frame, out);
     0
 }

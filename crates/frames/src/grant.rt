@@ -7,7 +7,7 @@ use crate::frame::{Form, open};
 use words::holds;
 
 // Document 01's nodeId, gnt, gntVal, linkErr and CRCErr.
-#[derive(Drop)]
+#[derive(Clone, Copy)]
 pub struct Grant {
     pub nodeid: u8,
     pub gnt: u8,
@@ -17,7 +17,7 @@ pub struct Grant {
 }
 
 // What reading a grant frame answers.
-#[derive(Drop)]
+#[derive(Clone, Copy)]
 pub enum GrantRead {
     Frame(Grant),
     WrongLength,

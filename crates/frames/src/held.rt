@@ -10,7 +10,7 @@ use crate::frame::{Form, open, put};
 use words::{holds, two_bytes};
 
 // NodeId, gntVal, linkErr and CRCErr, and the targets held.
-#[derive(Drop)]
+#[derive(Clone, Copy)]
 pub struct Held {
     pub nodeid: u8,
     pub gntval: bool,
@@ -20,7 +20,7 @@ pub struct Held {
 }
 
 // What reading such a frame answers.
-#[derive(Drop)]
+#[derive(Clone, Copy)]
 pub enum HeldRead {
     Frame(Held),
     WrongLength,

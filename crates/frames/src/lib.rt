@@ -1,4 +1,6 @@
 // The frames of document 01: their readers and writers, and a host's part of a slot block.
+#![tactic(auto)]
+
 mod config;
 mod frame;
 mod grant;

@@ -4,7 +4,7 @@ ghost use Rattle.frames.specs.Part.{most_ports, frame_len, host_number, host_sta
 
 use crate::config::Config;
 
-#[derive(Drop)]
+#[derive(Clone, Copy)]
 pub struct Ports {}
 
 impl Ports {

@@ -10,14 +10,14 @@ use ports::{Set, State, Table, at_most};
 use words::holds;
 
 // The requests and the planned claims of all hosts.
-#[derive(Drop)]
+#[derive(Clone, Copy)]
 pub struct Tables {
     pub req: Table,
     pub pre: Table,
 }
 
 // The heard hosts whom nobody has cleared so far, and those whom at most one host has.
-#[derive(Drop)]
+#[derive(Clone, Copy)]
 pub struct Votes {
     pub uncleared: Set,
     pub enabled: Set,

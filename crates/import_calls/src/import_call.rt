@@ -43,6 +43,6 @@ pub extern "C" fn bellacush_import(
         return told.number as u32;
     }
     let bytes = report_bytes(told);
-    bytes::copy(&bytes, report);
+    copying::copy(&bytes, report);
     0
 }

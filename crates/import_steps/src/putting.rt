@@ -24,5 +24,5 @@ pub(crate) fn put_over(at: usize, x: &[u8], s: &mut [u8])
     ensures { s.new ≡ over at x.now s.old }
 {
     let end = at + x.len();
-    bytes::copy(x, &mut s[at..end]);
+    copying::copy(x, &mut s[at..end]);
 }

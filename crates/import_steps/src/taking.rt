@@ -14,7 +14,7 @@ use trace_parts::Fields;
 // The first number other than 0; the mode of every body; the state that the slots left, whose due slot counts them; the slot of the
 // packet before, and the hosts whose frames for it are there; of the open body its first slot and its slots; the bodies begun, and the
 // frames resent.
-#[derive(Drop)]
+#[derive(Clone, Copy)]
 pub struct Import {
     pub number: u8,
     pub mode: u32,

@@ -15,7 +15,7 @@ use import_steps::Import;
 use trace_parts::{Layout, contents_len};
 
 // The number, the length of the trace, and the frames resent.
-#[derive(Drop)]
+#[derive(Clone, Copy)]
 pub struct Imported {
     pub number: u8,
     pub length: usize,

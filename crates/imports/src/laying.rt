@@ -11,7 +11,7 @@ use crate::scanning::record_at;
 use import_steps::Import;
 
 // What is known of the records laid, and where the open body starts.
-#[derive(Drop)]
+#[derive(Clone, Copy)]
 pub(crate) struct Laid {
     import: Import,
     start: usize,

@@ -81,7 +81,7 @@ fn serve_central(state: State, work: Work) -> Table
 }
 
 // What a slot connects, and the rounds that it took.
-#[derive(Drop)]
+#[derive(Clone, Copy)]
 pub struct Matched {
     pub sets: Table,
     pub rounds: u8,

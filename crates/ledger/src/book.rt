@@ -10,7 +10,7 @@ use crate::events::{any, happened};
 use ports::{Initiator, Set, State, Table, Target};
 
 // Four counts for each pair, and the pairs that were asked and not connected in the last counted slot.
-#[derive(Drop)]
+#[derive(Clone, Copy)]
 pub struct Ledger {
     pub slots: u32,
     pub asked: [u32; Ledger::PAIRS],
@@ -21,14 +21,14 @@ pub struct Ledger {
 }
 
 // The number of a feed, and the ledger after it: as it was, if the number is not 0.
-#[derive(Drop)]
+#[derive(Clone, Copy)]
 pub struct Fed {
     pub number: u8,
     pub ledger: Ledger,
 }
 
 // The five figures of a pair.
-#[derive(Drop)]
+#[derive(Clone, Copy)]
 pub struct Figures {
     pub asked: u32,
     pub connected: u32,
@@ -38,7 +38,7 @@ pub struct Figures {
 }
 
 // The number, and the figures: zeros, if the number is not 0.
-#[derive(Drop)]
+#[derive(Clone, Copy)]
 pub struct Shown {
     pub number: u8,
     pub figures: Figures,

@@ -8,7 +8,7 @@ ghost use Rattle.ledger.specs.Events.{but, meet, less, happened};
 use ports::{Set, State, Table};
 
 // The pairs that are asked, connected while asked, fresh and withdrawn, and those that wait after the slot.
-#[derive(Drop)]
+#[derive(Clone, Copy)]
 pub struct Events {
     pub asked: Table,
     pub connected: Table,

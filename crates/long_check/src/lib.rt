@@ -1,4 +1,6 @@
 // The check of words over a long slice, by tables.
+#![tactic(auto)]
+
 mod check;
 mod tables;
 

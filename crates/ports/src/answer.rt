@@ -5,14 +5,14 @@ ghost use Rattle.ports.specs.Due.{declined};
 
 use crate::state::{State, Table};
 
-#[derive(Drop)]
+#[derive(Clone, Copy)]
 pub struct Answer {
     pub number: u8,
     pub rounds: u8,
     pub sets: Table,
 }
 
-#[derive(Drop)]
+#[derive(Clone, Copy)]
 pub struct Stepped {
     pub state: State,
     pub answer: Answer,

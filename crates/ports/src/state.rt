@@ -15,15 +15,15 @@ pub type Table = [Set; State::MOST];
 pub type Moved = u32;
 
 // The report's requester index.
-#[derive(Drop)]
+#[derive(Clone, Copy)]
 pub struct Initiator(pub usize);
 
 // The report's resource index.
-#[derive(Drop)]
+#[derive(Clone, Copy)]
 pub struct Target(pub usize);
 
 // The ports n, the offsets I and J, the slot number due, and the ports of operator 1; the others are operator 0's.
-#[derive(Drop)]
+#[derive(Clone, Copy)]
 pub struct State {
     pub ports: usize,
     pub initiator: Initiator,
@@ -32,7 +32,7 @@ pub struct State {
     pub owners: Set,
 }
 
-#[derive(Drop)]
+#[derive(Clone, Copy)]
 pub enum Mode {
     Central,
     // With its round limit.
@@ -55,7 +55,7 @@ pub fn mode_of(mode: u32) -> Mode
 }
 
 // A fresh state, or number 1 or 15 and a state of zeros.
-#[derive(Drop)]
+#[derive(Clone, Copy)]
 pub struct Fresh {
     pub number: u8,
     pub state: State,

@@ -45,7 +45,7 @@ fn store(cell: &[u8], x: usize, pool: &mut [u8])
     ensures { pool.new ≡ stored cell_len pool.old x cell.now }
 {
     let at = x * CELL_LEN;
-    bytes::copy(cell, &mut pool[at..]);
+    copying::copy(cell, &mut pool[at..]);
 }
 
 // The first free entry becomes the last one held.

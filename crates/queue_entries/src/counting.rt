@@ -9,7 +9,7 @@ use ports::{Initiator, State, Target};
 use queue_records::{HEAD_LEN, in_order, initiator_of, target_of, word};
 
 // The number, and how many.
-#[derive(Drop)]
+#[derive(Clone, Copy)]
 pub struct Counted {
     pub number: u8,
     pub cells: usize,

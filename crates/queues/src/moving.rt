@@ -20,7 +20,7 @@ fn show(pool: &[u8], x: usize, t: usize, out: &mut [u8])
     let from = x * CELL_LEN;
     let to = from + CELL_LEN;
     let at = t * CELL_LEN;
-    bytes::copy(&pool[from..to], &mut out[at..]);
+    copying::copy(&pool[from..to], &mut out[at..]);
 }
 
 fn forward(leavers: [u32; State::MOST], gone: usize, pool: &[u8], out: &mut [u8])

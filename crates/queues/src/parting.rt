@@ -17,7 +17,7 @@ fn clear(s: Set, k: usize) -> Set
 }
 
 // How many entries stay, and those that leave, at the front of the list.
-#[derive(Drop)]
+#[derive(Clone, Copy)]
 pub(crate) struct Leavers {
     pub kept: usize,
     pub entries: [u32; State::MOST],

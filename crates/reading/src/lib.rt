@@ -14,7 +14,7 @@ pub fn read_contents(fd: i32, buf: &mut [u8]) -> usize
     let mut head = [0u8; Layout::HEAD];
     let got = io::read_full(fd, &mut head);
     let size = trace_parts::contents_size(&head[..got]);
-    bytes::copy(&head, buf);
+    copying::copy(&head, buf);
     if size < Layout::HEAD {
         return 0;
     }

@@ -49,7 +49,7 @@ fn put_kept(
         return at;
     }
     let body = body_of(n, count, file, k);
-    bytes::copy(body, &mut out[at..]);
+    copying::copy(body, &mut out[at..]);
     at + body.len()
 }
 

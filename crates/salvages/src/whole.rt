@@ -11,7 +11,7 @@ use crate::putting::{body_of, put_bodies};
 use body_fates::{Judged, judge};
 
 // The length of the new trace and the body count of the file, or a number and zeros.
-#[derive(Drop)]
+#[derive(Clone, Copy)]
 pub struct Salvaged {
     pub number: u8,
     pub len: u32,
@@ -89,7 +89,7 @@ fn put_fates(count: usize, judged: Judged, fates: &mut [u8])
     ensures { fates.new ≡ take count judged.fates ++ drop count fates.old }
 {
     let told = judged.fates;
-    bytes::copy(&told[..count], fates);
+    copying::copy(&told[..count], fates);
 }
 
 fn salvage_whole(n: usize, count: usize, file: &[u8], out: &mut [u8], fates: &mut [u8]) -> Salvaged

@@ -8,7 +8,7 @@ use frames::Config;
 use ports::{Set, State, Table};
 
 // The number, and the sets: empty, if the number is not 0.
-#[derive(Drop)]
+#[derive(Clone, Copy)]
 pub struct Asked {
     pub number: u8,
     pub sets: Table,

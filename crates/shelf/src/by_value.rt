@@ -39,7 +39,7 @@ fn refusal(state: State, slot: u32, mode: Mode, block: &[u8], out: &[u8]) -> u8
 }
 
 // Who is heard, and the slot up to its live requests.
-#[derive(Drop)]
+#[derive(Clone, Copy)]
 pub struct Begun {
     pub heard: Set,
     pub work: Work,

@@ -10,7 +10,7 @@ use frames::ConfigRead;
 use hearing::Tables;
 use ports::{Set, State, Table};
 
-#[derive(Drop)]
+#[derive(Clone, Copy)]
 pub struct Hosts {
     pub heard: Set,
     pub req: Table,
@@ -62,7 +62,7 @@ fn count_hosts(ports: usize, owners: Set, hosts: Hosts) -> Tables
 }
 
 // Who is heard, and what counts of req and pre.
-#[derive(Drop)]
+#[derive(Clone, Copy)]
 pub struct Told {
     pub heard: Set,
     pub tables: Tables,

@@ -9,7 +9,7 @@ use crate::layout::{Layout, block_len, body_len, body_size, most_mode, ports_sou
 use crate::number::byte;
 
 // Mode, I and J.
-#[derive(Drop)]
+#[derive(Clone, Copy)]
 pub struct Fields {
     pub mode: u32,
     pub initiator: usize,
@@ -17,7 +17,7 @@ pub struct Fields {
 }
 
 // The fields, or number 14 and zeros.
-#[derive(Drop)]
+#[derive(Clone, Copy)]
 pub struct FieldsRead {
     pub number: u8,
     pub fields: Fields,

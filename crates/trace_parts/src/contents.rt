@@ -8,7 +8,7 @@ ghost use Rattle.trace_parts.specs.Contents.{ports_of, count_of, entry_at, entry
 use crate::layout::{Layout, body_len, contents_len, ports_sound, slots_sound};
 use crate::number::{byte, long, word};
 
-#[derive(Drop)]
+#[derive(Clone, Copy)]
 pub struct Entry {
     pub first: u32,
     pub slots: u16,
@@ -16,7 +16,7 @@ pub struct Entry {
 }
 
 // An entry and the bytes of its body, or number 14 and zeros.
-#[derive(Drop)]
+#[derive(Clone, Copy)]
 pub struct EntryRead {
     pub number: u8,
     pub entry: Entry,
@@ -24,7 +24,7 @@ pub struct EntryRead {
 }
 
 // Ports and body count, or number 14 and zeros.
-#[derive(Drop)]
+#[derive(Clone, Copy)]
 pub struct Head {
     pub number: u8,
     pub ports: usize,

@@ -6,7 +6,7 @@ ghost use Rattle.trace_parts.specs.Layout.{block_len, body_len, contents_len, mo
 
 use frames::{Config, Ports};
 
-#[derive(Drop)]
+#[derive(Clone, Copy)]
 pub struct Layout {}
 
 impl Layout {

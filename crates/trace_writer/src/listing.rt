@@ -36,7 +36,7 @@ fn put_entry(entry: Entry, out: &mut [u8])
     ensures { out.new ≡ entry_bytes entry ++ drop 10 out.old }
 {
     let bytes = entry_bytes(entry);
-    bytes::copy(&bytes, out);
+    copying::copy(&bytes, out);
 }
 
 fn put_entries(n: usize, firsts: &[u32], slots: &[u16], out: &mut [u8])
@@ -63,7 +63,7 @@ pub(crate) fn put_contents(n: usize, firsts: &[u32], slots: &[u16], out: &mut [u
     ensures { out.new ≡ contents_of n firsts.now slots.now }
 {
     let head = head_bytes(n, slots.len());
-    bytes::copy(&head, out);
+    copying::copy(&head, out);
     put_entries(n, firsts, slots, &mut out[Layout::HEAD..]);
     long_check::long_seal(out);
 }

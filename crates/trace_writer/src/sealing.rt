@@ -20,8 +20,8 @@ fn put_body(f: Fields, blocks: &[u8], out: &mut [u8])
     ensures { out.new ≡ body_of f blocks.now }
 {
     let fields = field_bytes(f);
-    bytes::copy(&fields, out);
-    bytes::copy(blocks, &mut out[Layout::FIELDS..]);
+    copying::copy(&fields, out);
+    copying::copy(blocks, &mut out[Layout::FIELDS..]);
     long_check::long_seal(out);
 }
 

@@ -41,7 +41,7 @@ pub fn write_trace(n: usize, firsts: &[u32], slots: &[u16], bodies: &[u8], out: 
             return 7;
         }
         put_contents(n, firsts, slots, &mut out[..at]);
-        bytes::copy(bodies, &mut out[at..]);
+        copying::copy(bodies, &mut out[at..]);
         return 0;
     }
     14

@@ -1,4 +1,6 @@
 // Words as digits and as bytes, the high byte first, and the check of bytes.
+#![tactic(auto)]
+
 mod bits;
 mod check;
 mod numbers;

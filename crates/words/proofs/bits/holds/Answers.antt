@@ -4,17 +4,12 @@ use mathlib.Core.Bool.{false}
 use Prim.Native.Nat.{ℕ, ◌^◌, ◌≤◌, ◌<◌}
 use native.Mathlib.Omega.{arith}
 use lib.Dec.{eqb}
-use borrow.Author.Rules.{rules}
 use Rattle.laws.specs.Sets.{has}
 use Rattle.laws.proofs.Words.{digit_past}
-use Rattle.words.proofs.bits.holds.Statement.{statement}
-use Rattle.words.proofs.bits.holds.Tie as tie
+use Rattle.words.proofs.bits.holds.Goals as goal
 
 beyond : (w s k : ℕ) → s < 2 ^ w → w ≤ k → false ≡ has s k
 beyond w s k h l = sym (ap (λ d. eqb d 1) (digit_past s w k h l))
 
-pub holds_spec : {M : Type 1} → statement M
-holds_spec =
-    tie.close
-    (tie.spec (λ c. search rules) (λ c. search rules) (λ c. search rules)
-    (λ c. beyond 16 c.before.args.s c.before.args.k (omega arith) (omega arith)))
+pub returns-else-k-lt16 : goal.returns-else-k-lt16
+returns-else-k-lt16 c = beyond 16 c.args.s c.args.k (omega arith) (omega arith)
