@@ -45,10 +45,6 @@ formed_zero len type in_form s = go (form_number len type s) (in_form (body_of l
     go zero false e = absurd (omega arith)
     go (suc k) ok e = let z : suc k ≡ 0 = rw (eqb-suc-zero k) at e in absurd (omega arith)
 
--- the number that an opening which came out as v stands for
-pub told : {r : Form} (v : Form) {k : ℕ} → r ≡ v → form_answer r ≡ k → k ≡ form_answer v
-told v e a = sym a ∙ ap form_answer e
-
 -- what is sealed opens with 0, and its body is what was sealed
 module _ (len type : ℕ) (body : List ℕ) (long : length body + 3 ≡ len) where
   pub form-sealed : form_number len type (sealed type body) ≡ 0

@@ -1,0 +1,23 @@
+-- `frames::grant::read_grant` meets its contract: each case of `open` is the number that `open` promises.
+use mathlib.Core.Path.{sym}
+use native.Mathlib.Omega.{arith}
+use Rattle.frames.specs.declared.frame.Form.TheVariants.{Sound, WrongLength, WrongType, WrongCheck}
+use Rattle.frames.proofs.FrameLaws.{sound}
+use Rattle.frames.proofs.grant.read_grant.Goals as goal
+
+pub slice_bounds-grant_of-end : goal.slice_bounds-grant_of-end
+slice_bounds-grant_of-end c =
+    let long = (sound _ _ _ (sym c.in-Sound.ensures)).long in
+    omega arith
+
+pub returns-in-WrongLength : goal.returns-in-WrongLength
+returns-in-WrongLength c = rw (sym c.in-WrongLength.ensures)
+
+pub returns-in-WrongType : goal.returns-in-WrongType
+returns-in-WrongType c = rw (sym c.in-WrongType.ensures)
+
+pub returns-in-WrongCheck : goal.returns-in-WrongCheck
+returns-in-WrongCheck c = rw (sym c.in-WrongCheck.ensures)
+
+pub returns-in-Sound : goal.returns-in-Sound
+returns-in-Sound c = rw (sym c.in-Sound.ensures) c.grant_of.ensures
