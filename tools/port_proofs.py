@@ -234,7 +234,15 @@ def turn(folder, module, names):
         tried = re.match(r"(overflow|bounds|slice_bounds|nonzero|offset_bounds)|.*-smaller$", new)
         if text_of.strip() in ("search rules", "(search rules)") and (tried or not opened):
             continue
-        answers.append((new, comment, opened, turned(text_of, function, place)))
+        if new.startswith(("enum_told", "enum_known")) and text_of.startswith("search "):
+            continue
+        text_of = turned(text_of, function, place)
+        for was, now in names["args"]:
+            text_of = re.sub(re.escape(was[1:].replace(" ", "")) + r"(?![\w'-])", now[1:].replace(" ", ""), text_of)
+        arm = re.findall(r"in-([A-Z]\w*)", new)
+        if arm:
+            text_of = re.sub(rf"c\.(?:enum_(?:told|known)[\w-]*|[\w-]+-\d)\.given\.1(?![\w'-])", f"c.in-{arm[-1]}.is", text_of)
+        answers.append((new, comment, opened, text_of))
     rest = [(n, parts) for n, parts in order if n not in handled]
     called = {arg: new for (old, new), arg in zip(needs, need_args) if arg in decls}
     for arg, new in called.items():

@@ -1,4 +1,6 @@
 // The ports of a shelf: its state, its tables, the modes of a slot, and the numbers 1 to 5.
+#![tactic(auto)]
+
 mod answer;
 mod due;
 mod operators;
