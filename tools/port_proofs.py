@@ -83,7 +83,7 @@ class Function:
 
 
 def plain(name):
-    return name.replace("«", "").replace("»", "").replace("_", "-")
+    return name.replace("«", "").replace("»", "").replace("_lem", "").replace("_", "-")
 
 
 def quoted(name):
@@ -112,6 +112,7 @@ def turned(body, function, place):
             parts[2] = function.params[parts[0]][int(parts[2])]
         return ".".join(["c"] + [quoted(p) for p in parts])
 
+    body = body.replace(".well-formed", ".well_formed")
     body = re.sub(rf"(?<![\w.'«»-])({WORD})((?:\.{WORD})+)", one, body)
     for name, step in re.findall(rf"let ({WORD}) = c\.({WORD}) in", body):
         params = function.params.get(step, [])
@@ -210,7 +211,7 @@ def turn(folder, module, names):
                 raise LookupError(f"{kind}: {len(params)} parameters for {wanted}")
             renamed = dict(zip(params, wanted))
             renamed.pop("_", None)
-            right = re.sub(rf"(?<![\w.'«»-])({WORD})", lambda m: "l." + renamed[m.group(1)] if m.group(1) in renamed else m.group(), right)
+            right = re.sub(rf"(?<![\w.'«»-])({WORD})(?!\s*=\s)", lambda m: "l." + renamed[m.group(1)] if m.group(1) in renamed else m.group(), right)
             invariants.append((kind, new, comment, opened, right.strip()))
     for (old, new), arg, (place, _) in zip(needs, need_args, names["asked_at"]):
         if arg in decls:

@@ -1,4 +1,6 @@
 // What rules 3 to 6 share: the choice and its rotation, sets as words, and how a pair is joined.
+#![tactic(auto)]
+
 mod choice;
 mod join;
 mod sets;

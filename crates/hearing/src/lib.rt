@@ -1,4 +1,6 @@
 // Rules 1 and 2: what of the hosts' fields counts.
+#![tactic(auto)]
+
 ghost use Rattle.std.specs.Prelude.{◌≡◌, cond, ◌-◌, ◌<◌, ◌≤◌, get_or};
 ghost use Rattle.frames.specs.Part.{most_ports};
 ghost use Rattle.laws.specs.Sets.{has, tabled};

@@ -1,0 +1,13 @@
+use Rattle.laws.proofs.Rows.{rows}
+use Rattle.frames.specs.Part.{most_ports}
+use mathlib.Core.Path.{◌≡◌}
+use Prim.Native.Nat.{◌≤◌, ◌-◌}
+use lib.ListN.{get_or}
+use Rattle.laws.specs.Sets.{without, tabled}
+use Rattle.choices.proofs.join.clear_column.Given as goal
+
+abbrev pub invariant-loop-i : goal.invariant-loop-i
+invariant-loop-i l = (l.i ≤ most_ports) × (l.left ≡ tabled most_ports (λ k. without (get_or l.rows k 0) l.t.0) l.i)
+
+abbrev pub decreases-loop-i : goal.decreases-loop-i
+decreases-loop-i l = most_ports - l.i
