@@ -1,8 +1,8 @@
 use borrow.Author.Rules.{rules}
-use mathlib.Core.Logic.{⊎_elim}
 use Prim.Native.Nat.{◌<◌}
 use Rattle.central.proofs.Taking.{none_taken, joins, passes, all_taken}
 use Rattle.central.proofs.diagonal.taken.Goals as goal
+use Rattle.central.proofs.diagonal.taken.Goals.{then-holds, else-holds}
 
 pub loop-k-init : goal.loop-k-init
 loop-k-init c = (search rules, none_taken _ _)
@@ -14,10 +14,10 @@ loop-k-preserved c =
     let row = c.port_at.ensures.0 in
     let column = c.port_at-in-loop-k.ensures.0 in
     let asked = c.holds.ensures in
-    ⊎_elim
-    (λ w. (search rules, rw (w.3, w.4, w.5) (joins c.args.state c.requires _ _ _ _ _ l.invariant.1 inside row column asked w.0.taken w.1.ensures w.2.ensures)))
-    (λ w. (search rules, rw (w.1, w.2, w.3) (passes c.args.state c.requires _ _ _ _ _ l.invariant.1 inside row column asked w.0.left)))
-    c.if-holds.branch
+    elim c.if-holds.branch [
+      | then-holds w ↦ (search rules, rw (w.live-is, w.held-is, w.gone-is) (joins c.args.state c.requires _ _ _ _ _ l.invariant.1 inside row column asked w.if-holds.true w.put.ensures w.put-gone.ensures))
+      | else-holds w ↦ (search rules, rw (w.live-is, w.held-is, w.gone-is) (passes c.args.state c.requires _ _ _ _ _ l.invariant.1 inside row column asked w.if-holds.false))
+    ]
 
 pub returns : goal.returns
 returns c = all_taken _ _ _ _ c.loop-k.invariant.1 (search rules) (search rules) c.clear_columns.ensures

@@ -1,0 +1,10 @@
+use borrow.Author.Rules.{rules}
+use lib.Pow.{pow_pos}
+use Rattle.laws.proofs.Words.{single}
+use Rattle.columns.proofs.serving.all.Goals as goal
+
+pub overflow_sub-result : goal.overflow_sub-result
+overflow_sub-result c = rw (single 32 c.args.n (search rules)) (pow_pos c.args.n)
+
+pub returns : goal.returns
+returns c = rw (single 32 c.args.n (search rules))
