@@ -1,5 +1,5 @@
 -- Frames of any length and type: a list of bytes opens with 0 exactly if it is sealed, byte for byte.
-use mathlib.Core.Path.{◌≡◌, refl, sym, ap, ◌∙◌}
+use mathlib.Core.Path.{◌≡◌, refl, ap, ◌∙◌}
 use mathlib.Core.Bool.{Bool, true, false, not, cond}
 use mathlib.Core.List.{List, ◌∷◌}
 use Prim.Native.Nat.{ℕ, zero, suc, ◌+◌, ◌-◌, ◌≤◌, ◌<◌}
@@ -12,8 +12,7 @@ use Rattle.laws.specs.Bytes.{Bytes}
 use Rattle.laws.proofs.Bytes.{bytes_drop, bytes_take}
 use Rattle.words.specs.Check.{checked, front, intact}
 use Rattle.words.proofs.CheckLaws.{length_checked, checked-intact, intact-checked}
-use Rattle.frames.specs.Frame.{sealed, body_of, form_number, formed_number, form_answer, answered, room_number, written}
-use Rattle.frames.specs.declared.frame.Form.{Form}
+use Rattle.frames.specs.Frame.{sealed, body_of, form_number, formed_number, answered, room_number, written}
 
 pub length_sealed : (type : ℕ) (body : List ℕ) → length (sealed type body) ≡ length body + 3
 length_sealed type body = length_checked (type ∷ body) ∙ omega arith

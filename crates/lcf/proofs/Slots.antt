@@ -1,13 +1,10 @@
 -- The slot on tables by its parts, over any greatest port count.
-use Rattle.std.proofs.Common.{◌≡◌, ℕ, min, false, List, [], ◌∷◌, refl, ⊎_elim, arith, eq-eqb}
-use types.Run.{OneOf}
-use denote.Enum.Declared.{tag_of}
+use Rattle.std.proofs.Common.{◌≡◌, ℕ, min, false, List, refl, arith, eq-eqb}
 use Rattle.ports.specs.Ready.{Ready}
 use Rattle.ports.specs.Due.{wrong_limit, due_number, orderly}
 use Rattle.ports.specs.declared.state.State.{State}
 use Rattle.ports.specs.declared.state.Mode.{Mode}
 use Rattle.ports.specs.declared.state.Mode.TheVariants.{Central, Distributed, Diagonal}
-use Rattle.ports.specs.contracts.state.Mode as T
 use Rattle.ports.proofs.Numbers.{served, due_now, limit_fits, orderly_same}
 use Rattle.planned.specs.Planned.{start}
 use Rattle.central.specs.Central.{central}
@@ -18,14 +15,14 @@ use Rattle.choices.specs.declared.work.Run.{Run}
 
 -- the modes that the central form ends, and those of the distributed form
 module _ (st : State) (mode : Mode) (s : Work) where
-  pub by_targets : {o : Work} {u : List ℕ} → OneOf (0 ∷ 2 ∷ []) (tag_of T.the_type mode) → o ≡ opened st mode s → u ≡ (central st o st.ports).held
+  pub by_targets : {o : Work} {u : List ℕ} → ((limit : ℕ) → mode ≡ Distributed limit → ⊥) → o ≡ opened st mode s → u ≡ (central st o st.ports).held
       → (u ≡ (serve_mode st mode s).work.held) × (0 ≡ (serve_mode st mode s).rounds)
   unfolding serve_mode diagonal_first
   by_targets {o} {u} k p e = go mode k p
     where
-      go : (mode : Mode) → OneOf (0 ∷ 2 ∷ []) (tag_of T.the_type mode) → o ≡ opened st mode s → (u ≡ (serve_mode st mode s).work.held) × (0 ≡ (serve_mode st mode s).rounds)
+      go : (mode : Mode) → ((limit : ℕ) → mode ≡ Distributed limit → ⊥) → o ≡ opened st mode s → (u ≡ (serve_mode st mode s).work.held) × (0 ≡ (serve_mode st mode s).rounds)
       go Central k p = (rw (e, p), refl)
-      go (Distributed limit) k p = absurd (⊎_elim (λ z. omega arith) (λ z. omega arith) k)
+      go (Distributed limit) k p = absurd (k limit refl)
       go Diagonal k p = (rw (e, p), refl)
 
 module _ (m : ℕ) (st : State) (mode : Mode) (s : Work) (ready : Ready m st) where

@@ -1,4 +1,6 @@
 // The Least Choice First scheduler on tables: rules 3 to 7 of document 01.
+#![tactic(auto)]
+
 mod slot;
 
 pub use slot::{finish_due, slot_on_tables};

@@ -1,4 +1,3 @@
-use Rattle.laws.proofs.Rows.{rows}
 use Rattle.frames.specs.Part.{most_ports}
 use mathlib.Core.Path.{◌≡◌}
 use mathlib.Core.Bool.{cond}

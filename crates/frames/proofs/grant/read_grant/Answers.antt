@@ -1,7 +1,6 @@
 -- `frames::grant::read_grant` meets its contract: each case of `open` is the number that `open` promises.
 use mathlib.Core.Path.{sym}
 use native.Mathlib.Omega.{arith}
-use Rattle.frames.specs.declared.frame.Form.TheVariants.{Sound, WrongLength, WrongType, WrongCheck}
 use Rattle.frames.proofs.FrameLaws.{sound}
 use Rattle.frames.proofs.grant.read_grant.Goals as goal
 

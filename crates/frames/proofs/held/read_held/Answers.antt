@@ -1,7 +1,6 @@
 -- `frames::held::read_held` meets its contract: each case of `open` is the number that `open` promises.
 use mathlib.Core.Path.{sym}
 use native.Mathlib.Omega.{arith}
-use Rattle.frames.specs.declared.frame.Form.TheVariants.{Sound, WrongLength, WrongType, WrongCheck}
 use Rattle.frames.proofs.FrameLaws.{sound}
 use Rattle.frames.proofs.held.read_held.Goals as goal
 
