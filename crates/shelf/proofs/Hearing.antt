@@ -25,8 +25,8 @@ use Rattle.frames.specs.contracts.config.ConfigRead as T
 use Rattle.shelf.specs.Hosts.{said, is_heard, field_of, hosts_of}
 
 -- an answer that is no frame: a number, and zero fields
-unheard : (r : ConfigRead) → OneOf (1 ∷ 2 ∷ 3 ∷ []) (tag_of T.the_type r) → (eqb (config_answer r).number 0 ≡ false) × ((config_answer r).fields ≡ no_config)
-unheard (Frame c) e = absurd (⊎_elim (λ z. omega arith) (⊎_elim (λ z. omega arith) (λ z. omega arith)) e)
+unheard : (r : ConfigRead) → ((c : Config) → r ≡ Frame c → ⊥) → (eqb (config_answer r).number 0 ≡ false) × ((config_answer r).fields ≡ no_config)
+unheard (Frame c) e = absurd (e c refl)
 unheard WrongLength e = (refl, refl)
 unheard WrongType e = (refl, refl)
 unheard WrongCheck e = (refl, refl)
@@ -61,7 +61,7 @@ unfolding steps
 nobody m n block = record { who = refl; asked = refl; claimed = refl; voted = refl }
 
 module _ {m n : ℕ} {block : List ℕ} {h heard : ℕ} {req pre ben : List ℕ} (so_far : Heard m n block h heard req pre ben) (r : ConfigRead) (is : config_answer r ≡ said m n block h) where
-  pub misses : OneOf (1 ∷ 2 ∷ 3 ∷ []) (tag_of T.the_type r) → Heard m n block (h + 1) heard req pre ben
+  pub misses : ((c : Config) → r ≡ Frame c → ⊥) → Heard m n block (h + 1) heard req pre ben
   misses other =
       let (number, fields) = unheard r other in
       let skipped : (f : Config → ℕ) (rows : List ℕ) → f no_config ≡ 0 → rows ≡ tabled m (field_of m n block f) h → rows ≡ tabled m (field_of m n block f) (h + 1)
