@@ -22,7 +22,7 @@ def blocks(text):
     for line in text.split("\n"):
         if line.startswith("--"):
             comment.append(line)
-        elif line and not line[0].isspace():
+        elif line and not line[0].isspace() and line[0] not in ")]}":
             found.append(comment + [line])
             comment = []
         elif line.strip() and found:
@@ -71,6 +71,9 @@ class Function:
         if not parts:
             return place, []
         first, here = parts[0], place
+        # A step whose name was taken for a lemma's.
+        if first.endswith("_lem") and not any(plain(first) == plain(old) for old, _ in self.step.values()):
+            first = parts[0] = first[:-4]
         while here is not None:
             old_step, new_step = self.step.get(here, ("", ""))
             if old_step and plain(first) == plain(old_step):
@@ -84,6 +87,26 @@ class Function:
 
 def plain(name):
     return name.replace("«", "").replace("»", "").replace("_lem", "").replace("_", "-")
+
+
+def of_l(text, renamed):
+    """A text with its parameters read off `l`, but for those that a λ binds again."""
+
+    def all_of(part, names):
+        return re.sub(rf"(?<![\w.'«»-])({WORD})(?!\s*=\s)", lambda m: "l." + names[m.group(1)] if m.group(1) in names else m.group(), part)
+
+    found = re.search(r"λ ([^.]*)\.(?=\s)", text)
+    if not found:
+        return all_of(text, renamed)
+    at, depth = found.end(), 0
+    while at < len(text) and depth >= 0:
+        depth += (text[at] in "([{") - (text[at] in ")]}")
+        at += 1
+    end = at - 1 if depth < 0 else at
+    bound = re.sub(r":[^)]*", "", found.group(1)).replace("(", " ").replace(")", " ").split()
+    inner = {name: new for name, new in renamed.items() if name not in bound}
+    binders = re.sub(r":[^)]*", lambda m: all_of(m.group(), renamed), found.group(1))
+    return all_of(text[: found.start()], renamed) + "λ " + binders + "." + of_l(text[found.end() : end], inner) + of_l(text[end:], renamed)
 
 
 def quoted(name):
@@ -108,11 +131,14 @@ def turned(body, function, place):
         if m.group(1) not in places:
             return m.group()
         _, parts = function.path(places[m.group(1)], m.group(2)[1:].split("."))
+        if re.match(r"copy(-\d+)?$", parts[0]) and parts[1:3] == ["ensures", "1"]:
+            del parts[2]
         if len(parts) > 2 and parts[1] == "new" and parts[2].isdigit() and int(parts[2]) < len(function.params.get(parts[0], [])):
             parts[2] = function.params[parts[0]][int(parts[2])]
         return ".".join(["c"] + [quoted(p) for p in parts])
 
     body = body.replace(".well-formed", ".well_formed")
+    body = re.sub(r"\.ptr(?![\w'-])", ".ref_ptr", body)
     body = re.sub(rf"(?<![\w.'«»-])({WORD})((?:\.{WORD})+)", one, body)
     for name, step in re.findall(rf"let ({WORD}) = c\.({WORD}) in", body):
         params = function.params.get(step, [])
@@ -211,7 +237,7 @@ def turn(folder, module, names):
                 raise LookupError(f"{kind}: {len(params)} parameters for {wanted}")
             renamed = dict(zip(params, wanted))
             renamed.pop("_", None)
-            right = re.sub(rf"(?<![\w.'«»-])({WORD})(?!\s*=\s)", lambda m: "l." + renamed[m.group(1)] if m.group(1) in renamed else m.group(), right)
+            right = of_l(right, renamed)
             invariants.append((kind, new, comment, opened, right.strip()))
     for (old, new), arg, (place, _) in zip(needs, need_args, names["asked_at"]):
         if arg in decls:
@@ -225,21 +251,28 @@ def turn(folder, module, names):
             found = re.match(rf"{re.escape(arg)}\s+c((?:\s+\S+)*?)\s*=\s?(.*)$", clauses[0], re.S)
             if not found:
                 raise LookupError(f"the answer {arg}")
-            text_of = found.group(2)
+            taken, text_of = found.group(1).split(), found.group(2)
         else:
             comment, opened = [], unfolding
-            found = re.match(r"\(λ c(?: [^.]*)?\.\s*(.*)\)$", arg, re.S)
+            found = re.match(r"\(λ c( [^.]*)?\.\s*(.*)\)$", arg, re.S)
             if not found:
                 raise LookupError(f"the argument {arg[:60]}")
-            text_of = found.group(1)
+            taken, text_of = (found.group(1) or "").split(), found.group(2)
+        taken = [name for name in taken if not name.startswith("κ")]
         tried = re.match(r"(overflow|bounds|slice_bounds|nonzero|offset_bounds)|.*-smaller$", new)
         if text_of.strip() in ("search rules", "(search rules)") and (tried or not opened):
             continue
         if new.startswith(("enum_told", "enum_known")) and text_of.startswith("search "):
             continue
         text_of = turned(text_of, function, place)
+        for alias in re.findall(rf"let ({WORD}) = c\.args in", text_of):
+            for was, now in names["args"]:
+                if was.startswith(".args "):
+                    text_of = re.sub(rf"(?<![\w.'-]){re.escape(alias)}\.{re.escape(was[7:])}(?![\w'-])", f"{alias}.{now[7:]}", text_of)
         for was, now in names["args"]:
             text_of = re.sub(re.escape(was[1:].replace(" ", "")) + r"(?![\w'-])", now[1:].replace(" ", ""), text_of)
+        if taken:
+            text_of = f"λ {' '.join(taken)}. {text_of.strip()}"
         arm = re.findall(r"in-([A-Z]\w*)", new)
         if arm:
             text_of = re.sub(rf"c\.(?:enum_(?:told|known)[\w-]*|[\w-]+-\d)\.given\.1(?![\w'-])", f"c.in-{arm[-1]}.is", text_of)
