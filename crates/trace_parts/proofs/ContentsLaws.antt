@@ -8,7 +8,6 @@ use native.Mathlib.Omega.{arith}
 use lib.Dec.{ltb, leb}
 use lib.ListN.{length, take}
 use borrow.Author.Tests.{eqb-true, ltb-true, leb-true, lt-ltb, le-leb}
-use Rattle.laws.specs.Steps.{every}
 use Rattle.laws.specs.Tests.{between}
 use Rattle.laws.proofs.Every.{every_each}
 use Rattle.laws.proofs.Tests.{both, same, from_to, in_range}

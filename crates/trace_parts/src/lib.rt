@@ -1,4 +1,6 @@
 // The parts of a slot trace, each by itself: its measures, its contents, and a body.
+#![tactic(auto)]
+
 mod body;
 mod contents;
 mod layout;
