@@ -24,7 +24,7 @@ start_before : (n : ℕ) (slots : List ℕ) (k j : ℕ) → k ≤ j → start_of
 start_before n slots k zero h = let none : k ≡ 0 = omega arith in rw none (le_refl _)
 start_before n slots k (suc j) h = ⊎_elim
     (λ e. rw e (le_refl _))
-    (λ l. rw start_suc (omega (arith, start_before n slots k j (le_of_suc-le-suc l))))
+    (λ (l : k < suc j). rw start_suc (omega (arith, start_before n slots k j (le_of_suc-le-suc l))))
     (eq-or-lt_of_le h)
 
 module _ (m n : ℕ) (slots : List ℕ) (body : ℕ → List ℕ) (each : (k : ℕ) → k < length slots → body_sound m n (get_or slots k 0) (body k) ≡ true) where

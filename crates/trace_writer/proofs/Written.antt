@@ -4,15 +4,15 @@ use mathlib.Core.List.{List, [], ◌∷◌, ◌++◌, append-nil, append_assoc}
 use Prim.Native.Nat.{ℕ, ◌+◌, ◌-◌}
 use native.Mathlib.Nat.{le_refl}
 use native.Mathlib.Omega.{arith}
-use lib.ListN.{length, take, drop, length-append, length-drop, drop_of_length-le}
-use lib.Seq.{take_at, drop_at, take_all, take-length, drop-drop}
+use lib.ListN.{length, drop, length-append, length-drop, drop_of_length-le}
+use lib.Seq.{take_at, drop_at, take_all, drop-drop}
 use borrow.Rule.Slice.PartMut.{mid_of, put_mid}
 use Rattle.words.specs.Check.{checked, sealed}
 use Rattle.words.proofs.CheckLaws.{sealed-over}
 
 -- a copy of bytes that are w many
-pub copied : (w : ℕ) (s b o out : List ℕ) → b ≡ s → length s ≡ w → out ≡ take (length b) b ++ drop (length b) o → out ≡ s ++ drop w o
-copied w s b o out is long e = e ∙ rw (is, take-length, long)
+pub copied : (w : ℕ) (s b o out : List ℕ) → b ≡ s → length s ≡ w → out ≡ b ++ drop (length b) o → out ≡ s ++ drop w o
+copied w s b o out is long e = e ∙ rw (is, long)
 
 -- the part from a on, lent and written, behind the first a bytes p
 module _ (a : ℕ) (p q : List ℕ) (front : length p ≡ a) where

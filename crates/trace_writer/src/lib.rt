@@ -1,4 +1,6 @@
 // Writes slot traces: a body of its fields and blocks, contents, and a whole trace of bodies joined.
+#![tactic(auto)]
+
 mod listing;
 mod sealing;
 mod writing;
