@@ -1,4 +1,6 @@
 // What becomes of the bodies of a damaged trace, judged one by one.
+#![tactic(auto)]
+
 mod body;
 mod judging;
 
