@@ -50,7 +50,7 @@ pub put_none : (at : ℕ) (g out : List ℕ) → g ≡ [] → (at ≡ at + lengt
 put_none at g out e = rw e (sym (add-zero at), sym (take-append-drop at out))
 
 pub put_some : (at : ℕ) (g body out last : List ℕ) → body ≡ g → at ≤ length out
-    → last ≡ take (length body) body ++ drop (length body) (mid_of at (length out - at) out)
+    → last ≡ body ++ drop (length body) (mid_of at (length out - at) out)
     → (at + length body ≡ at + length g) × (put_mid at (length out - at) out last ≡ take at out ++ (g ++ drop (at + length body) out))
 put_some at g body out last e h w = (
   ap (λ (l : List ℕ). at + length l) e,

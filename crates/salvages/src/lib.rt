@@ -1,4 +1,6 @@
 // Damaged traces, salvaged: a new trace of just the bodies that are sound.
+#![tactic(auto)]
+
 mod putting;
 mod whole;
 
