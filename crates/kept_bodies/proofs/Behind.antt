@@ -13,7 +13,7 @@ use Rattle.laws.specs.Bytes.{Bytes, number}
 use Rattle.laws.proofs.Parts.{part_own}
 use Rattle.trace_parts.specs.Layout.{body_len}
 use Rattle.trace_parts.specs.Contents.{ports_of, count_of, entry_of, body_end, contents_end, due}
-use Rattle.trace_parts.proofs.ContentsLaws.{Contents, contents}
+use Rattle.trace_parts.proofs.ContentsLaws.{Contents}
 use Rattle.trace_parts.proofs.ContentsOwn.{ports_own, entry_own}
 use Rattle.traces.specs.Trace.{body_at, sound_at, trace_sound}
 use Rattle.traces.proofs.TraceLaws.{trace}
