@@ -1,4 +1,6 @@
 // The salvage of a trace as C calls it, with its length and body count in words that are lent.
+#![tactic(auto)]
+
 ghost use Rattle.std.specs.Prelude.{◌≡◌};
 ghost use Rattle.frames.specs.Part.{most_ports};
 ghost use Rattle.salvage_calls.specs.Salvaging.{salvaged_number, salvaged_shown, salvaged_output, salvaged_fates};
