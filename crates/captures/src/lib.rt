@@ -1,4 +1,6 @@
 // Packet captures: the header of a classic libpcap file, and the packet in a record.
+#![tactic(auto)]
+
 mod header;
 mod number;
 mod packet;
