@@ -20,7 +20,7 @@ use Rattle.ports.proofs.Seen.{asks-within}
 use Rattle.ledger.specs.Counts.{pairs, pair, raised, most_slots}
 use Rattle.ledger.specs.Events.{happened}
 use Rattle.ledger.specs.Ledger.{empty, figures_of, high, over, refusal, number, next}
-use Rattle.ledger.specs.History.{Feed, Event, inside, asked, connected, waited, is_asked, is_connected, is_fresh, is_withdrawn, how_often, is_open}
+use Rattle.ledger.specs.History.{Feed, Event, inside, asked, waited, is_asked, is_connected, is_fresh, is_withdrawn, how_often, is_open}
 use Rattle.ledger.specs.Shows.{fed_with, fed, counted, told, Shows}
 use Rattle.ledger.specs.declared.book.Ledger.{Ledger}
 use Rattle.ledger.specs.declared.book.Figures.{Figures}
