@@ -1,4 +1,6 @@
 // The sixteen sets as thirty-two bytes, and a state as nine.
+#![tactic(auto)]
+
 mod states;
 
 ghost use Rattle.std.specs.Prelude.{◌≡◌, ◌++◌, ◌≤◌, length, drop};
