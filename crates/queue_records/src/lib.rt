@@ -1,4 +1,6 @@
 // The records of the queues: an entry for each cell of the pool, in lent words.
+#![tactic(auto)]
+
 mod entry;
 mod making;
 mod marks;
