@@ -1,4 +1,6 @@
 // Cells are added to the queues, and counted.
+#![tactic(auto)]
+
 mod adding;
 mod counting;
 

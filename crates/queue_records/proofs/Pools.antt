@@ -5,7 +5,7 @@ use Prim.Native.Nat.{ℕ, ◌+◌, ◌*◌, ◌-◌, ◌≤◌, ◌<◌}
 use native.Mathlib.Nat.{le_refl, mul-le-mul_right, suc-mul}
 use native.Mathlib.Omega.{arith}
 use lib.ListN.{length, take, drop, take-append-drop, length-append, length-drop}
-use lib.Seq.{take-length, drop-drop, drop-append-le, length-take-le}
+use lib.Seq.{drop-drop, drop-append-le, length-take-le}
 use borrow.Rule.Slice.PartMut.{mid_of, post_of, put_mid, mid_len}
 use Rattle.queue_records.specs.Queue.{cell_at, stored}
 
@@ -24,13 +24,13 @@ length_cell w pool x room = length-take-le w (drop (x * w) pool) (simp length-dr
 
 -- a copy to the part of the pool from cell x on
 pub copied_in : (w x : ℕ) (pool s last : List ℕ) → length s ≡ w → x * w + w ≤ length pool
-    → last ≡ take (length s) s ++ drop (length s) (mid_of (x * w) (length pool - x * w) pool)
+    → last ≡ s ++ drop (length s) (mid_of (x * w) (length pool - x * w) pool)
     → put_mid (x * w) (length pool - x * w) pool last ≡ stored w pool x s
 unfolding stored
 copied_in w x pool s last long room wrote =
     let a = x * w in
     let k = length pool - a in
     let fits : w ≤ length (mid_of a k pool) = omega (arith, mid_len a (length pool) pool (le_refl (length pool))) in
-    rw (wrote, take-length, long)
+    rw (wrote, long)
     (ap (λ (l : List ℕ). take a pool ++ l)
     (append_assoc s _ _ ∙ ap (λ (l : List ℕ). s ++ l) (sym (drop-append-le w (mid_of a k pool) (post_of a k pool) fits) ∙ ap (drop w) (take-append-drop k (drop a pool)) ∙ drop-drop w a pool)))
