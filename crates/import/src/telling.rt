@@ -1,36 +1,30 @@
 // What the program says.
 use import_steps::Import;
-use libc::{STDERR_FILENO, STDOUT_FILENO};
+use std::io::{Result, Stderr, Stdout};
 
-pub fn tell_usage() {
-    io::write_all(
-        STDERR_FILENO,
-        b"import PORTS MODE I J CAPTURE TRACE: the first four are numbers\n",
-    );
+pub fn tell_usage(err: Stderr) -> Result<()> {
+    err.write_all(b"import PORTS MODE I J CAPTURE TRACE: the first four are numbers\n")
 }
 
 // Why nothing is imported, by its number.
-pub fn decline(capture: &[u8], number: u8) {
-    io::write_all(STDERR_FILENO, capture);
-    io::write_all(STDERR_FILENO, b": ");
-    io::print_decimal(STDERR_FILENO, number as u64);
+pub fn decline(err: Stderr, capture: &[u8], number: u8) -> Result<()> {
+    err.write_all(capture)?;
+    print!(err; ": {number}")?;
     if number == 1 {
-        io::write_all(STDERR_FILENO, b" (ports)\n");
+        err.write_all(b" (ports)\n")
     } else if number == 2 {
-        io::write_all(STDERR_FILENO, b" (offsets)\n");
+        err.write_all(b" (offsets)\n")
     } else if number == 5 {
-        io::write_all(STDERR_FILENO, b" (mode)\n");
+        err.write_all(b" (mode)\n")
     } else {
-        io::write_all(STDERR_FILENO, b" (not such a capture)\n");
+        err.write_all(b" (not such a capture)\n")
     }
 }
 
 // The last line.
-pub fn tell_end(known: Import) {
-    io::print_decimal(STDOUT_FILENO, known.state.due as u64);
-    io::write_all(STDOUT_FILENO, b" slots in ");
-    io::print_decimal(STDOUT_FILENO, known.bodies as u64);
-    io::write_all(STDOUT_FILENO, b" bodies, ");
-    io::print_decimal(STDOUT_FILENO, known.resent as u64);
-    io::write_all(STDOUT_FILENO, b" resent\n");
+pub fn tell_end(out: Stdout, known: Import) -> Result<()> {
+    let slots = known.state.due;
+    let bodies = known.bodies;
+    let resent = known.resent;
+    println!(out; "{slots} slots in {bodies} bodies, {resent} resent")
 }

@@ -1,7 +1,8 @@
 // The numbers on the command line.
+use std::env::Env;
 
 // Whether all of it are digits of a number that 32 bits hold, and that number.
-#[derive(Drop)]
+#[derive(Clone, Copy)]
 pub struct Typed {
     pub ok: bool,
     pub value: u32,
@@ -43,8 +44,8 @@ fn number_in(text: &[u8]) -> Typed {
 }
 
 // Word k of the command line.
-pub fn number_at(k: usize) -> Typed {
-    let mut text = io::buffer();
-    let length = os::arg(k, &mut text);
+pub fn number_at(env: &impl Env, k: usize) -> Typed {
+    let mut text = outside::buffer();
+    let length = outside::word(env, k, &mut text);
     number_in(&text[..length])
 }

@@ -1,4 +1,6 @@
 // The two passes of the import over a file: its records taken, and their bodies written.
+#![tactic(auto)]
+
 mod pieces;
 mod shown_progress;
 

@@ -3,16 +3,19 @@ ghost use Rattle.std.specs.Prelude.{◌+◌, ◌≤◌, ◌<◌, length};
 
 use crate::shown_progress::progress;
 use import_steps::Import;
+use std::fs::File;
+use std::io::{Read, Result, Stderr, Write};
 
-// The file and its byte order.
-#[derive(Drop)]
-pub struct Source {
-    pub fd: i32,
+// The file and its byte order, and where to say how far a pass is.
+#[derive(Clone, Copy)]
+pub struct Source<'a> {
+    pub file: &'a File,
     pub low: bool,
+    pub err: Stderr,
 }
 
 // What is known of the records read, whether all could be read (and what they make be written), and whether the file may have more.
-#[derive(Drop)]
+#[derive(Clone, Copy)]
 pub struct Pass {
     pub import: Import,
     pub sound: bool,
@@ -42,11 +45,12 @@ fn record_end(at: usize, len: usize, all: usize) -> usize
 }
 
 // The next piece of the file: how many bytes there were.
-fn read_piece(fd: i32, len: usize, buf: &mut [u8]) -> usize
+fn read_piece(file: &File, len: usize, buf: &mut [u8]) -> usize
     ensures { result ≤ length buf.old }
 {
     if len <= buf.len() {
-        let got = io::read_full(fd, &mut buf[..len]);
+        let mut from = file;
+        let got = outside::read_full(&mut from, &mut buf[..len]);
         if got <= buf.len() {
             return got;
         }
@@ -54,10 +58,11 @@ fn read_piece(fd: i32, len: usize, buf: &mut [u8]) -> usize
     0
 }
 
-// Whether the file is at its end, and not where it cannot be read.
-fn ended(fd: i32) -> bool {
+// Whether the file is at its end; an error where it cannot be read.
+fn ended(file: &File) -> Result<bool> {
+    let mut from = file;
     let mut one = [0u8; 1];
-    libc::read(fd, &mut one) == 0
+    Ok(from.read(&mut one)? == 0)
 }
 
 fn first(import: Import) -> Pass {
@@ -69,19 +74,19 @@ fn first(import: Import) -> Pass {
 }
 
 // After a piece of so many bytes; one that is short is the last.
-fn after(fd: i32, len: usize, got: usize, import: Import, sound: bool) -> Pass {
+fn after(file: &File, len: usize, got: usize, import: Import, sound: bool) -> Result<Pass> {
     if got == len {
-        return Pass {
+        return Ok(Pass {
             import,
             sound,
             more: true,
-        };
+        });
     }
-    Pass {
+    Ok(Pass {
         import,
-        sound: sound & ended(fd),
+        sound: ended(file)? & sound,
         more: false,
-    }
+    })
 }
 
 // ---- the first pass
@@ -106,113 +111,134 @@ fn scan_piece(
 }
 
 fn scan_next(
-    source: Source,
+    source: Source<'_>,
     now: Pass,
     buf: &mut [u8],
     firsts: &mut [u32],
     slots: &mut [u16],
-) -> Pass {
+) -> Result<Pass> {
     let p = now.import;
     let len = piece_len(p.state.ports);
-    let got = read_piece(source.fd, len, buf);
+    let got = read_piece(source.file, len, buf);
     let import = scan_piece(source.low, p, &buf[..got], firsts, slots);
-    after(source.fd, len, got, import, now.sound)
+    after(source.file, len, got, import, now.sound)
 }
 
+// What the system refuses to read is an error.
 pub fn scan(
-    source: Source,
+    source: Source<'_>,
     start: Import,
     buf: &mut [u8],
     firsts: &mut [u32],
     slots: &mut [u16],
-) -> Pass {
+) -> Result<Pass> {
     let mut now = first(start);
     for k in 0..PIECES {
         if now.more {
-            progress(1, k);
-            now = scan_next(source, now, buf, firsts, slots);
+            progress(source.err, 1, k);
+            now = scan_next(source, now, buf, firsts, slots)?;
         } else {
-            return now;
+            return Ok(now);
         }
     }
-    now
+    Ok(now)
 }
 
 // ---- the second pass
 
 // Writes the open body, with its check.
-fn put_body(p: Import, body: &mut [u8], out: i32) -> bool {
+fn put_body(p: Import, body: &mut [u8], out: &File) -> Result<bool> {
     import_steps::close_body(p, body);
     let size = trace_parts::body_size(p.state.ports, p.slots);
     if size <= body.len() {
-        return io::write_all(out, &body[..size]);
+        let mut to = out;
+        to.write_all(&body[..size])?;
+        return Ok(true);
     }
-    false
+    Ok(false)
 }
 
-fn end_body(p: Import, q: Import, sound: bool, body: &mut [u8], out: i32) -> bool {
+fn end_body(p: Import, q: Import, sound: bool, body: &mut [u8], out: &File) -> Result<bool> {
     if import_steps::ends_body(p, q) {
-        return put_body(p, body, out) & sound;
+        return Ok(put_body(p, body, out)? & sound);
     }
-    sound
+    Ok(sound)
 }
 
-fn lay_record(low: bool, now: Pass, bytes: &[u8], body: &mut [u8], out: i32) -> Pass {
+fn lay_record(low: bool, now: Pass, bytes: &[u8], body: &mut [u8], out: &File) -> Result<Pass> {
     let p = now.import;
     let q = import_steps::take_record(low, p, bytes);
-    let sound = end_body(p, q, now.sound, body, out);
+    let sound = end_body(p, q, now.sound, body, out)?;
     let number = import_steps::lay_record(low, p, bytes, body);
-    Pass {
+    Ok(Pass {
         import: q,
         sound: sound & (number == 0),
         more: now.more,
-    }
+    })
 }
 
-fn lay_piece(low: bool, start: Pass, piece: &[u8], body: &mut [u8], out: i32) -> Pass {
+fn lay_piece(low: bool, start: Pass, piece: &[u8], body: &mut [u8], out: &File) -> Result<Pass> {
     let len = captures::record_len(start.import.state.ports);
     let mut now = start;
     let mut at: usize = 0;
     while at < piece.len() {
         let end = record_end(at, len, piece.len());
-        now = lay_record(low, now, &piece[at..end], body, out);
+        now = lay_record(low, now, &piece[at..end], body, out)?;
         at = end;
     }
-    now
+    Ok(now)
 }
 
-fn lay_next(source: Source, now: Pass, buf: &mut [u8], body: &mut [u8], out: i32) -> Pass {
+fn lay_next(
+    source: Source<'_>,
+    now: Pass,
+    buf: &mut [u8],
+    body: &mut [u8],
+    out: &File,
+) -> Result<Pass> {
     let len = piece_len(now.import.state.ports);
-    let got = read_piece(source.fd, len, buf);
-    let laid = lay_piece(source.low, now, &buf[..got], body, out);
+    let got = read_piece(source.file, len, buf);
+    let laid = lay_piece(source.low, now, &buf[..got], body, out)?;
     let import = laid.import;
-    after(source.fd, len, got, import, laid.sound)
+    after(source.file, len, got, import, laid.sound)
 }
 
 // Whether the last body was written too, if there is one.
-fn put_last(now: Pass, body: &mut [u8], out: i32) -> bool {
+fn put_last(now: Pass, body: &mut [u8], out: &File) -> Result<bool> {
     let p = now.import;
     if 0 < p.slots {
-        return put_body(p, body, out) & now.sound;
+        return Ok(put_body(p, body, out)? & now.sound);
     }
-    now.sound
+    Ok(now.sound)
 }
 
-fn lay_pieces(source: Source, start: Import, buf: &mut [u8], body: &mut [u8], out: i32) -> Pass {
+fn lay_pieces(
+    source: Source<'_>,
+    start: Import,
+    buf: &mut [u8],
+    body: &mut [u8],
+    out: &File,
+) -> Result<Pass> {
     let mut now = first(start);
     for k in 0..PIECES {
         if now.more {
-            progress(2, k);
-            now = lay_next(source, now, buf, body, out);
+            progress(source.err, 2, k);
+            now = lay_next(source, now, buf, body, out)?;
         } else {
-            return now;
+            return Ok(now);
         }
     }
-    now
+    Ok(now)
 }
 
-// Writes the bodies; whether all could be read and written.
-pub fn lay(source: Source, start: Import, buf: &mut [u8], body: &mut [u8], out: i32) -> bool {
-    let now = lay_pieces(source, start, buf, body, out);
+// Writes the bodies; whether all could be read and written. What the system refuses to read or write is an error.
+pub fn lay(
+    source: Source<'_>,
+    start: Import,
+    buf: &mut [u8],
+    body: &mut [u8],
+    out: &File,
+) -> Result<bool> {
+    let now = lay_pieces(source, start, buf, body, out)?;
     put_last(now, body, out)
 }

@@ -1,26 +1,22 @@
-// How far a pass is, on a terminal.
-use libc::STDERR_FILENO;
+// How far a pass is, on a terminal. Where that cannot be written, the pass goes on.
+use std::io::{IsTerminal, Stderr};
 
-fn watched() -> bool {
-    libc::isatty(STDERR_FILENO) == 1
+fn watched(err: Stderr) -> bool {
+    err.is_terminal()
 }
 
 // How many MiB of a pass are done, now and then.
-pub(crate) fn progress(pass: u64, piece: u64) {
+pub(crate) fn progress(err: Stderr, pass: u64, piece: u64) {
     if piece % 64 == 0 {
-        if watched() {
-            io::write_all(STDERR_FILENO, b"\rpass ");
-            io::print_decimal(STDERR_FILENO, pass);
-            io::write_all(STDERR_FILENO, b" of 2: ");
-            io::print_decimal(STDERR_FILENO, piece / 16);
-            io::write_all(STDERR_FILENO, b" MiB");
+        if watched(err) {
+            let _ = print!(err; "\rpass {pass} of 2: {} MiB", piece / 16);
         }
     }
 }
 
 // Clears the line that it stood on.
-pub fn end_progress() {
-    if watched() {
-        io::write_all(STDERR_FILENO, b"\r\x1b[K");
+pub fn end_progress(err: Stderr) {
+    if watched(err) {
+        let _ = print!(err; "\r\x1b[K");
     }
 }

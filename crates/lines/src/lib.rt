@@ -1,4 +1,6 @@
 // A slot's table as a line of text.
+#![tactic(auto)]
+
 ghost use Rattle.std.specs.Prelude.{[], ◌∷◌, ◌≡◌, ◌<◌, min};
 ghost use Rattle.frames.specs.Part.{most_ports};
 ghost use Rattle.lines.specs.Line.{decimal, separator, target, targets, initiator, initiators, slot_line};

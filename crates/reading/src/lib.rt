@@ -1,18 +1,21 @@
 // A trace, read from a file: its contents, then a body at a time.
+#![tactic(auto)]
+
 ghost use Rattle.std.specs.Prelude.{◌≤◌, length};
 
-use libc::SEEK_SET;
+use outside::read_full;
+use std::io::{Read, Result, Seek, SeekFrom};
 use trace_parts::Layout;
 
 // Reads the start of a file that holds its contents: three bytes, and as many in all as they say. Says how many it had.
-pub fn read_contents(fd: i32, buf: &mut [u8]) -> usize
+pub fn read_contents<R: Read>(file: &mut R, buf: &mut [u8]) -> usize
     ensures { result ≤ length buf.old }
 {
     if buf.len() < Layout::HEAD {
         return 0;
     }
     let mut head = [0u8; Layout::HEAD];
-    let got = io::read_full(fd, &mut head);
+    let got = read_full(file, &mut head);
     let size = trace_parts::contents_size(&head[..got]);
     copying::copy(&head, buf);
     if size < Layout::HEAD {
@@ -21,34 +24,39 @@ pub fn read_contents(fd: i32, buf: &mut [u8]) -> usize
     if buf.len() < size {
         return 0;
     }
-    Layout::HEAD + io::read_full(fd, &mut buf[Layout::HEAD..size])
+    Layout::HEAD + read_full(file, &mut buf[Layout::HEAD..size])
 }
 
 // Fills the bytes with the next of the file, and says whether it had so many.
-pub fn read_body(fd: i32, body: &mut [u8]) -> bool {
-    io::read_full(fd, body) == body.len()
+pub fn read_body<R: Read>(file: &mut R, body: &mut [u8]) -> bool {
+    read_full(file, body) == body.len()
 }
 
 // Reads len bytes from byte `at` of the file on, and says how many it had: what cannot be read counts as not there.
-pub fn read_at(fd: i32, at: u32, len: usize, buf: &mut [u8]) -> usize
+pub fn read_at<R: Read + Seek>(file: &mut R, at: u32, len: usize, buf: &mut [u8]) -> usize
     ensures { result ≤ length buf.old }
 {
     if buf.len() < len {
         return 0;
     }
-    if libc::lseek(fd, at as i64, SEEK_SET) != at as i64 {
-        return 0;
+    match file.seek(SeekFrom::Start(at as u64)) {
+        Ok(place) => {
+            if place != at as u64 {
+                return 0;
+            }
+        }
+        Err(_) => return 0,
     }
-    io::read_full(fd, &mut buf[..len])
+    read_full(file, &mut buf[..len])
 }
 
 // Whether the file ends here.
-pub fn at_end(fd: i32) -> bool {
+pub fn at_end<R: Read>(file: &mut R) -> bool {
     let mut one = [0u8; 1];
-    io::read_full(fd, &mut one) == 0
+    read_full(file, &mut one) == 0
 }
 
-// Goes back to the file's beginning, where that is possible.
-pub fn rewind(fd: i32) -> bool {
-    libc::lseek(fd, 0, SEEK_SET) == 0
+// Goes back to the file's beginning; an error where that is not possible.
+pub fn rewind<S: Seek>(file: &mut S) -> Result<()> {
+    file.rewind()
 }

@@ -1,56 +1,80 @@
 // Replays the trace that the argument names, or standard input, and prints a line for each slot.
+#![tactic(auto)]
+
 ghost use Rattle.std.specs.Prelude.{◌≤◌};
 
-use libc::{STDERR_FILENO, STDIN_FILENO, STDOUT_FILENO};
+use outside::fail;
 use ports::Stepped;
+use std::io::{Error, ErrorKind, IsTerminal, Read, Result, Seek, Stderr, Stdout};
 use trace_parts::{EntryRead, Head};
 
+// Where lines go, and what is said besides.
+#[derive(Clone, Copy)]
+struct Streams {
+    out: Stdout,
+    err: Stderr,
+}
+
 // Whether all was sound so far, whether lines were lost, and how many bytes of lines wait to be written.
-#[derive(Drop)]
+#[derive(Clone, Copy)]
 struct Run {
     sound: bool,
     lost: bool,
     at: usize,
 }
 
-// Writes the lines that wait; says so once if they cannot be written.
-fn flush(out: &[u8], run: Run) -> Run {
-    if run.lost {
-        return run;
-    }
-    let at = run.at;
+fn write_lines(to: Stdout, out: &[u8], at: usize) -> Result<()> {
     if at <= out.len() {
-        if io::write_all(STDOUT_FILENO, &out[..at]) {
-            return Run {
-                sound: run.sound,
-                lost: false,
-                at: 0,
-            };
-        }
+        return to.write_all(&out[..at]);
     }
-    os::fail(b"standard output");
-    Run {
-        sound: run.sound,
-        lost: true,
-        at: 0,
+    Err(Error::from(ErrorKind::WriteZero))
+}
+
+// Writes the lines that wait; says so once if they cannot be written.
+fn flush(to: Streams, out: &[u8], run: Run) -> Result<Run> {
+    if run.lost {
+        return Ok(run);
+    }
+    match write_lines(to.out, out, run.at) {
+        Ok(()) => Ok(Run {
+            sound: run.sound,
+            lost: false,
+            at: 0,
+        }),
+        Err(error) => {
+            fail(to.err, b"standard output", error)?;
+            Ok(Run {
+                sound: run.sound,
+                lost: true,
+                at: 0,
+            })
+        }
     }
 }
 
 // Keeps the lines until the next might not fit, since a write for each takes too long.
-fn flush_full(out: &[u8], run: Run) -> Run {
+fn flush_full(to: Streams, out: &[u8], run: Run) -> Result<Run> {
     if run.at < out.len() {
         if lines::LONGEST <= out.len() - run.at {
-            return run;
+            return Ok(run);
         }
     }
-    flush(out, run)
+    flush(to, out, run)
 }
 
-fn show(n: usize, slot: u32, stepped: Stepped, out: &mut [u8], run: Run) -> Run {
+fn show(
+    to: Streams,
+    n: usize,
+    slot: u32,
+    stepped: Stepped,
+    out: &mut [u8],
+    run: Run,
+) -> Result<Run> {
     let answer = stepped.answer;
     let sets = answer.sets;
     let end = lines::put_line(out, run.at, slot, n, sets);
     flush_full(
+        to,
         out,
         Run {
             sound: run.sound,
@@ -66,7 +90,14 @@ fn wide(x: u16) -> usize
     x as usize
 }
 
-fn show_body(n: usize, read: EntryRead, body: &[u8], out: &mut [u8], run: Run) -> Run {
+fn show_body(
+    to: Streams,
+    n: usize,
+    read: EntryRead,
+    body: &[u8],
+    out: &mut [u8],
+    run: Run,
+) -> Result<Run> {
     let entry = read.entry;
     let slots = entry.slots;
     let count = wide(slots);
@@ -74,10 +105,10 @@ fn show_body(n: usize, read: EntryRead, body: &[u8], out: &mut [u8], run: Run) -
     let mut now = run;
     for k in 0..count {
         let stepped = replays::replay_slot(n, slots, k, body, state);
-        now = show(n, state.due, stepped, out, now);
+        now = show(to, n, state.due, stepped, out, now)?;
         state = stepped.state;
     }
-    now
+    Ok(now)
 }
 
 fn unsound(run: Run) -> Run {
@@ -90,66 +121,66 @@ fn unsound(run: Run) -> Run {
 
 // Tests a body that was read, and prints its slots if they are asked for.
 fn play_read(
+    to: Streams,
     n: usize,
     read: EntryRead,
     prints: bool,
     run: Run,
     body: &[u8],
     out: &mut [u8],
-) -> Run {
+) -> Result<Run> {
     let entry = read.entry;
     if trace_parts::body_sound(n, entry.slots, body) {
         if prints {
-            return show_body(n, read, body, out, run);
+            return show_body(to, n, read, body, out, run);
         }
-        return run;
+        return Ok(run);
     }
-    unsound(run)
+    Ok(unsound(run))
 }
 
-fn play_body(
-    fd: i32,
+fn play_body<R: Read>(
+    to: Streams,
+    file: &mut R,
     n: usize,
     read: EntryRead,
     prints: bool,
     run: Run,
     body: &mut [u8],
     out: &mut [u8],
-) -> Run {
+) -> Result<Run> {
     let len = read.len as usize;
     if body.len() < len {
-        return unsound(run);
+        return Ok(unsound(run));
     }
-    if reading::read_body(fd, &mut body[..len]) {
-        return play_read(n, read, prints, run, &body[..len], out);
+    if reading::read_body(file, &mut body[..len]) {
+        return play_read(to, n, read, prints, run, &body[..len], out);
     }
-    unsound(run)
+    Ok(unsound(run))
 }
 
-// Whether to say how far it is: standard error is a terminal, and no lines go there too.
-fn watched() -> bool {
-    (libc::isatty(STDERR_FILENO) == 1) & (libc::isatty(STDOUT_FILENO) != 1)
+// Whether to say how far it is: standard error is a terminal, and no lines go there too. Where that cannot be written, the replay goes on.
+fn watched(to: Streams) -> bool {
+    to.err.is_terminal() & !to.out.is_terminal()
 }
 
-fn progress(k: usize, count: usize) {
-    if watched() {
-        io::write_all(STDERR_FILENO, b"\rbodies read: ");
-        io::print_decimal(STDERR_FILENO, k as u64);
-        io::write_all(STDERR_FILENO, b" of ");
-        io::print_decimal(STDERR_FILENO, count as u64);
+fn progress(to: Streams, k: usize, count: usize) {
+    if watched(to) {
+        let _ = print!(to.err; "\rbodies read: {k} of {count}");
     }
 }
 
 // Clears the line that it stood on.
-fn end_progress() {
-    if watched() {
-        io::write_all(STDERR_FILENO, b"\r\x1b[K");
+fn end_progress(to: Streams) {
+    if watched(to) {
+        let _ = print!(to.err; "\r\x1b[K");
     }
 }
 
 // Body k of a trace with these contents.
-fn play_next(
-    fd: i32,
+fn play_next<R: Read>(
+    to: Streams,
+    file: &mut R,
     head: Head,
     k: usize,
     contents: &[u8],
@@ -157,18 +188,24 @@ fn play_next(
     run: Run,
     body: &mut [u8],
     out: &mut [u8],
-) -> Run {
+) -> Result<Run> {
     if run.sound {
-        progress(k, head.count);
+        progress(to, k, head.count);
         let read = trace_parts::read_entry(contents, k);
-        return play_body(fd, head.ports, read, prints, run, body, out);
+        return play_body(to, file, head.ports, read, prints, run, body, out);
     }
-    run
+    Ok(run)
 }
 
-fn play_bodies(fd: i32, head: Head, contents: &[u8], prints: bool) -> bool {
-    let mut body = io::large_buffer();
-    let mut out = io::large_buffer();
+fn play_bodies<R: Read>(
+    to: Streams,
+    file: &mut R,
+    head: Head,
+    contents: &[u8],
+    prints: bool,
+) -> Result<bool> {
+    let mut body = outside::large_buffer();
+    let mut out = outside::large_buffer();
     let count = head.count;
     let mut run = Run {
         sound: true,
@@ -176,66 +213,68 @@ fn play_bodies(fd: i32, head: Head, contents: &[u8], prints: bool) -> bool {
         at: 0,
     };
     for k in 0..count {
-        run = play_next(fd, head, k, contents, prints, run, &mut body, &mut out);
+        run = play_next(
+            to, file, head, k, contents, prints, run, &mut body, &mut out,
+        )?;
     }
-    end_progress();
-    flush(&out, run);
-    run.sound
+    end_progress(to);
+    flush(to, &out, run)?;
+    Ok(run.sound)
 }
 
 // Goes through the file once; whether it is a trace.
-fn play(fd: i32, prints: bool) -> bool {
-    let mut buf = io::large_buffer();
-    let size = reading::read_contents(fd, &mut buf);
+fn play<R: Read>(to: Streams, file: &mut R, prints: bool) -> Result<bool> {
+    let mut buf = outside::large_buffer();
+    let size = reading::read_contents(file, &mut buf);
     let contents = &buf[..size];
     let head = trace_parts::contents_head(contents);
     if head.number != 0 {
-        return false;
+        return Ok(false);
     }
-    if play_bodies(fd, head, contents, prints) {
-        return reading::at_end(fd);
+    if play_bodies(to, file, head, contents, prints)? {
+        return Ok(reading::at_end(file));
     }
-    false
+    Ok(false)
 }
 
-fn no_trace(name: &[u8]) {
-    io::write_all(STDERR_FILENO, name);
-    io::write_all(STDERR_FILENO, b": 14 (not a trace)\n");
+fn no_trace(to: Streams, name: &[u8]) -> Result<()> {
+    to.err.write_all(name)?;
+    to.err.write_all(b": 14 (not a trace)\n")
 }
 
 // The bodies before a fault are printed.
-fn replay_once(fd: i32, name: &[u8]) {
-    if !play(fd, true) {
-        no_trace(name);
+fn replay_once<R: Read>(to: Streams, file: &mut R, name: &[u8]) -> Result<()> {
+    if play(to, file, true)? {
+        return Ok(());
     }
+    no_trace(to, name)
 }
 
 // Nothing is printed of a file that is no trace: it is read twice.
-fn replay_file(fd: i32, name: &[u8]) {
-    if play(fd, false) {
-        if reading::rewind(fd) {
-            replay_once(fd, name);
-        } else {
-            os::fail(name);
+fn replay_file<R: Read + Seek>(to: Streams, file: &mut R, name: &[u8]) -> Result<()> {
+    if play(to, file, false)? {
+        match reading::rewind(file) {
+            Ok(()) => replay_once(to, file, name),
+            Err(error) => fail(to.err, name, error),
         }
     } else {
-        no_trace(name);
+        no_trace(to, name)
     }
 }
 
-fn main() {
-    if os::arg_count() < 2 {
-        replay_once(STDIN_FILENO, b"standard input");
-        return;
+fn main(rt: HostRuntime) -> Result<()> {
+    let to = Streams {
+        out: rt.stdout(),
+        err: rt.stderr(),
+    };
+    if !outside::has_word(&rt, 1) {
+        return replay_once(to, &mut rt.stdin(), b"standard input");
     }
-    let mut path = io::buffer();
-    let length = os::arg(1, &mut path);
+    let mut path = outside::buffer();
+    let length = outside::word(&rt, 1, &mut path);
     let name = &path[..length];
-    let fd = os::open_read(name);
-    if fd < 0 {
-        os::fail(name);
-        return;
+    match outside::open(&rt, name) {
+        Ok(mut file) => replay_file(to, &mut file, name),
+        Err(error) => fail(to.err, name, error),
     }
-    replay_file(fd, name);
-    libc::close(fd);
 }

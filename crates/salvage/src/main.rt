@@ -1,21 +1,38 @@
 // Salvages the damaged trace that the first argument names: its sound bodies become a new trace, which the second names, and a line
 // is printed for each body dropped. The file is read body by body, once to judge and once to copy.
+#![tactic(auto)]
+
 ghost use Rattle.std.specs.Prelude.{◌≤◌, length};
 
 use body_fates::Judged;
-use libc::{STDERR_FILENO, STDOUT_FILENO};
+use outside::fail;
 use salvage_passes::Outcome;
+use std::fs::OpenFile;
+use std::io::{Error, ErrorKind, Read, Result, Seek, Stderr, Stdout};
+use std::rt::Files;
 use trace_parts::Head;
 
-fn print_dropped(contents: &[u8], judged: Judged) {
-    let mut out = io::large_buffer();
-    let end = salvage_lines::put_lines(&mut out, contents, judged);
+// Where lines go, and what is said besides.
+#[derive(Clone, Copy)]
+struct Streams {
+    out: Stdout,
+    err: Stderr,
+}
+
+fn write_lines(to: Stdout, out: &[u8], end: usize) -> Result<()> {
     if end <= out.len() {
-        if io::write_all(STDOUT_FILENO, &out[..end]) {
-            return;
-        }
+        return to.write_all(&out[..end]);
     }
-    os::fail(b"standard output");
+    Err(Error::from(ErrorKind::WriteZero))
+}
+
+fn print_dropped(streams: Streams, contents: &[u8], judged: Judged) -> Result<()> {
+    let mut out = outside::large_buffer();
+    let end = salvage_lines::put_lines(&mut out, contents, judged);
+    match write_lines(streams.out, &out, end) {
+        Ok(()) => Ok(()),
+        Err(error) => fail(streams.err, b"standard output", error),
+    }
 }
 
 // The name under which the new trace is written, beside its own; no path where both are too long.
@@ -26,95 +43,137 @@ fn part_name(to: &[u8], name: &mut [u8]) -> usize
     lines::put_text(name, end, b".part")
 }
 
-fn abandon(made: i32, part: &[u8]) {
-    libc::close(made);
-    os::unlink(part);
+// Nothing is said where the file cannot be removed.
+fn unlink(files: &impl Files, part: &[u8]) {
+    let _ = outside::remove(files, part);
+}
+
+fn abandon<R: Files>(files: &R, made: R::File, part: &[u8]) {
+    drop(made);
+    unlink(files, part);
+}
+
+fn give_name(files: &impl Files, err: Stderr, part: &[u8], to: &[u8]) -> Result<()> {
+    match outside::rename(files, part, to) {
+        Ok(()) => Ok(()),
+        Err(error) => {
+            unlink(files, part);
+            fail(err, to, error)
+        }
+    }
 }
 
 // Gives the new trace its name once it is on the disk, so that a crash leaves no half trace.
-fn settle(made: i32, part: &[u8], to: &[u8]) {
-    if libc::fsync(made) != 0 {
-        os::fail(part);
-        abandon(made, part);
-        return;
-    }
-    libc::close(made);
-    if os::rename(part, to) != 0 {
-        os::fail(to);
-        os::unlink(part);
-    }
-}
-
-fn say_changed(name: &[u8]) {
-    io::write_all(STDERR_FILENO, name);
-    io::write_all(STDERR_FILENO, b": changed while it was read\n");
-}
-
-fn save(fd: i32, from: &[u8], to: &[u8], part: &[u8], head: Head, contents: &[u8], judged: Judged) {
-    let made = os::create(part);
-    if made < 0 {
-        os::fail(part);
-        return;
-    }
-    let outcome = salvage_passes::put_trace(fd, made, head, contents, judged);
-    match outcome {
-        Outcome::Done => settle(made, part, to),
-        Outcome::Unwritten => {
-            os::fail(part);
-            abandon(made, part);
+fn settle<R: Files>(files: &R, err: Stderr, made: R::File, part: &[u8], to: &[u8]) -> Result<()> {
+    match made.sync_all() {
+        Ok(()) => {
+            drop(made);
+            give_name(files, err, part, to)
         }
-        Outcome::Changed => {
-            say_changed(from);
-            abandon(made, part);
+        Err(error) => {
+            abandon(files, made, part);
+            fail(err, part, error)
         }
     }
 }
 
-fn refuse(name: &[u8]) {
-    io::write_all(STDERR_FILENO, name);
-    io::write_all(STDERR_FILENO, b": 14 (contents damaged)\n");
+fn say_changed(err: Stderr, name: &[u8]) -> Result<()> {
+    err.write_all(name)?;
+    err.write_all(b": changed while it was read\n")
 }
 
-fn salvage(fd: i32, from: &[u8], to: &[u8]) {
-    let mut buf = io::large_buffer();
-    let size = reading::read_contents(fd, &mut buf);
+fn save<R: Files, S: Read + Seek>(
+    files: &R,
+    err: Stderr,
+    file: &mut S,
+    from: &[u8],
+    to: &[u8],
+    part: &[u8],
+    head: Head,
+    contents: &[u8],
+    judged: Judged,
+) -> Result<()> {
+    let mut made = match outside::create(files, part) {
+        Ok(made) => made,
+        Err(error) => return fail(err, part, error),
+    };
+    match salvage_passes::put_trace(file, &mut made, head, contents, judged) {
+        Ok(Outcome::Done) => settle(files, err, made, part, to),
+        Ok(Outcome::Unwritten) => {
+            abandon(files, made, part);
+            fail(err, part, Error::from(ErrorKind::InvalidData))
+        }
+        Ok(Outcome::Changed) => {
+            abandon(files, made, part);
+            say_changed(err, from)
+        }
+        Err(error) => {
+            abandon(files, made, part);
+            fail(err, part, error)
+        }
+    }
+}
+
+fn refuse(err: Stderr, name: &[u8]) -> Result<()> {
+    err.write_all(name)?;
+    err.write_all(b": 14 (contents damaged)\n")
+}
+
+fn salvage<R: Files, S: Read + Seek>(
+    files: &R,
+    streams: Streams,
+    file: &mut S,
+    from: &[u8],
+    to: &[u8],
+) -> Result<()> {
+    let mut buf = outside::large_buffer();
+    let size = reading::read_contents(file, &mut buf);
     let contents = &buf[..size];
     let head = trace_parts::contents_head(contents);
     if head.number != 0 {
-        refuse(from);
-        return;
+        return refuse(streams.err, from);
     }
-    let judged = salvage_passes::judge_all(fd, head, contents);
-    print_dropped(contents, judged);
-    let mut name = io::buffer();
+    let judged = salvage_passes::judge_all(file, head, contents);
+    print_dropped(streams, contents, judged)?;
+    let mut name = outside::buffer();
     let end = part_name(to, &mut name);
-    save(fd, from, to, &name[..end], head, contents, judged);
+    save(
+        files,
+        streams.err,
+        file,
+        from,
+        to,
+        &name[..end],
+        head,
+        contents,
+        judged,
+    )
 }
 
 // The file is read from where its entries say, so it has to be one in which that is possible.
-fn open_and_salvage(from: &[u8], to: &[u8]) {
-    let fd = os::open_read(from);
-    if fd < 0 {
-        os::fail(from);
-        return;
+fn open_and_salvage<R: Files>(files: &R, streams: Streams, from: &[u8], to: &[u8]) -> Result<()> {
+    let mut file = match outside::open(files, from) {
+        Ok(file) => file,
+        Err(error) => return fail(streams.err, from, error),
+    };
+    match reading::rewind(&mut file) {
+        Ok(()) => salvage(files, streams, &mut file, from, to),
+        Err(error) => fail(streams.err, from, error),
     }
-    if reading::rewind(fd) {
-        salvage(fd, from, to);
-    } else {
-        os::fail(from);
-    }
-    libc::close(fd);
 }
 
-fn main() {
-    let mut from = io::buffer();
-    let from_length = os::arg(1, &mut from);
-    let mut to = io::buffer();
-    let to_length = os::arg(2, &mut to);
+fn main(rt: HostRuntime) -> Result<()> {
+    let streams = Streams {
+        out: rt.stdout(),
+        err: rt.stderr(),
+    };
+    let mut from = outside::buffer();
+    let from_length = outside::word(&rt, 1, &mut from);
+    let mut to = outside::buffer();
+    let to_length = outside::word(&rt, 2, &mut to);
     // No name, or one that is too long for a path.
-    if (os::arg_count() != 3) | (to_length == 0) {
-        io::write_all(STDERR_FILENO, b"usage: salvage DAMAGED NEW\n");
-        return;
+    if !outside::has_word(&rt, 2) | outside::has_word(&rt, 3) | (to_length == 0) {
+        return streams.err.write_all(b"usage: salvage DAMAGED NEW\n");
     }
-    open_and_salvage(&from[..from_length], &to[..to_length]);
+    open_and_salvage(&rt, streams, &from[..from_length], &to[..to_length])
 }

@@ -1,4 +1,6 @@
 // What is dropped of a damaged trace, as lines of text.
+#![tactic(auto)]
+
 ghost use Rattle.frames.specs.Part.{most_ports};
 ghost use Rattle.lines.specs.Put.{Put};
 ghost use Rattle.salvage_lines.specs.Dropped.{word, dropped_line, line_of, dropped_lines};

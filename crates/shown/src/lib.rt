@@ -1,21 +1,19 @@
 // A slot and its answer as one line of text.
+#![tactic(auto)]
+
 ghost use Rattle.std.specs.Prelude.{◌≡◌};
 ghost use Rattle.frames.specs.Part.{most_ports};
 ghost use Rattle.shown.specs.Slots.{state_at, rows_of};
 
-use libc::STDOUT_FILENO;
 use ports::{Initiator, State, Table, Target};
+use std::io::Result;
 
-fn text(bytes: &[u8]) {
-    io::write_all(STDOUT_FILENO, bytes);
+pub fn letter(rt: &impl Print, x: u8) -> Result<()> {
+    rt.write_all(&[x])
 }
 
-pub fn letter(x: u8) {
-    text(&[x]);
-}
-
-pub fn number(x: u64) {
-    io::print_decimal(STDOUT_FILENO, x);
+pub fn number(rt: &impl Print, x: u64) -> Result<()> {
+    print!(rt; "{x}")
 }
 
 // The slot that is due at the states below.
@@ -53,8 +51,8 @@ pub fn rows(digits: u16) -> Table
 }
 
 // The sets of the first n initiators, and the line's end.
-pub fn sets(n: usize, sets: Table) {
+pub fn sets(rt: &impl Print, n: usize, sets: Table) -> Result<()> {
     let mut line = [0u8; lines::LONGEST];
     let end = lines::put_initiators(&mut line, 0, n, sets);
-    text(&line[..end]);
+    rt.write_all(&line[..end])
 }
