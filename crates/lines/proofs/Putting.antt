@@ -1,7 +1,7 @@
 -- Text after text: what is put in two parts is put as one.
 use mathlib.Core.Path.{◌≡◌, refl, sym, ap, ◌∙◌}
 use mathlib.Core.List.{List, [], ◌∷◌, ◌++◌}
-use Prim.Native.Nat.{ℕ, suc, ◌+◌, ◌-◌, ◌≤◌}
+use Prim.Native.Nat.{ℕ, suc, ◌+◌, ◌≤◌}
 use native.Mathlib.Nat.{add-zero}
 use native.Mathlib.Decide.{dec_le}
 use native.Mathlib.Numerals.{add-one}
