@@ -16,8 +16,7 @@ fn operators_of(bytes: &[u8]) -> [u8; State::MOST]
     operators
 }
 
-#[unsafe(no_mangle)]
-pub extern "C" fn bellacush_fresh(n: u32, due: u32, operators: &[u8], state: &mut [u8]) -> u32
+pub fn bellacush_fresh(n: u32, due: u32, operators: &[u8], state: &mut [u8]) -> u32
     ensures { (result ≡ fresh_number most_ports n due operators.now state.old) × (state.new ≡ fresh_state most_ports n due operators.now state.old) }
 {
     if operators.len() != State::MOST {

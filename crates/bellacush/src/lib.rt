@@ -1,4 +1,4 @@
-// The C form: the slot call and the call that makes a fresh state, an object of their own.
+// The C form: the slot call and the call that makes a fresh state. bellacush_c gives them to C.
 mod fresh_call;
 mod slot_call;
 

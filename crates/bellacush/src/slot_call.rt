@@ -30,8 +30,7 @@ fn store(stepped: Stepped, state: &mut [u8], table: &mut [u8])
     put_table(sets, table);
 }
 
-#[unsafe(no_mangle)]
-pub extern "C" fn bellacush_slot(
+pub fn bellacush_slot(
     state: &mut [u8],
     slot: u32,
     mode: u32,

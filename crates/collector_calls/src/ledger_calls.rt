@@ -7,8 +7,7 @@ use ledger::Figures;
 use ports::{Initiator, Target};
 use table_bytes::{STATE_LEN, TABLE_LEN, put_table, state_in, table_in};
 
-#[unsafe(no_mangle)]
-pub extern "C" fn bellacush_asked(state: &[u8], block: &[u8], table: &mut [u8]) -> u32
+pub fn bellacush_asked(state: &[u8], block: &[u8], table: &mut [u8]) -> u32
     ensures { (result ≡ asked_number most_ports state.now block.now table.old) × (table.new ≡ asked_table most_ports state.now block.now table.old) }
 {
     if state.len() != STATE_LEN {
@@ -28,8 +27,7 @@ pub extern "C" fn bellacush_asked(state: &[u8], block: &[u8], table: &mut [u8]) 
     0
 }
 
-#[unsafe(no_mangle)]
-pub extern "C" fn bellacush_feed(ledger: &mut [u32], n: u32, asked: &[u8], connected: &[u8]) -> u32
+pub fn bellacush_feed(ledger: &mut [u32], n: u32, asked: &[u8], connected: &[u8]) -> u32
     ensures { (result ≡ feed_number most_ports ledger.old n asked.now connected.now) × (ledger.new ≡ feed_words most_ports ledger.old n asked.now connected.now) }
 {
     if asked.len() != TABLE_LEN {
@@ -52,13 +50,7 @@ fn put_figures(f: Figures, figures: &mut [u32])
     figures[4] = f.isopen;
 }
 
-#[unsafe(no_mangle)]
-pub extern "C" fn bellacush_figures(
-    ledger: &[u32],
-    initiator: u32,
-    target: u32,
-    figures: &mut [u32],
-) -> u32
+pub fn bellacush_figures(ledger: &[u32], initiator: u32, target: u32, figures: &mut [u32]) -> u32
     ensures { (result ≡ figures_number most_ports ledger.now initiator target figures.old) × (figures.new ≡ figures_after most_ports ledger.now initiator target figures.old) }
 {
     if figures.len() != 5 {

@@ -1,4 +1,4 @@
-// The C form: what the collectors' backend links besides.
+// The C form: what the collectors' backend links besides. collector_calls_c gives it to C.
 mod ledger_calls;
 mod trace_exports;
 

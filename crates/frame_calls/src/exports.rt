@@ -10,42 +10,31 @@ use crate::reading::{show_config, show_grant, show_held};
 use crate::writing::write_held;
 use frames::Config;
 
-#[unsafe(no_mangle)]
-pub extern "C" fn bellacush_read_config(frame: &[u8], part: &mut [u8]) -> u32
+pub fn bellacush_read_config(frame: &[u8], part: &mut [u8]) -> u32
     ensures { (result ≡ part_number config_len (read_config frame.now).number part.old) × (part.new ≡ part_after config_len (read_config frame.now).number frame.now part.old) }
 {
     show_config(frame, part)
 }
 
-#[unsafe(no_mangle)]
-pub extern "C" fn bellacush_read_grant(frame: &[u8], part: &mut [u8]) -> u32
+pub fn bellacush_read_grant(frame: &[u8], part: &mut [u8]) -> u32
     ensures { (result ≡ part_number grant_len (read_grant frame.now).number part.old) × (part.new ≡ part_after grant_len (read_grant frame.now).number frame.now part.old) }
 {
     show_grant(frame, part)
 }
 
-#[unsafe(no_mangle)]
-pub extern "C" fn bellacush_read_grant3(frame: &[u8], part: &mut [u8]) -> u32
+pub fn bellacush_read_grant3(frame: &[u8], part: &mut [u8]) -> u32
     ensures { (result ≡ part_number (held_len narrow) (read_held narrow frame.now).number part.old) × (part.new ≡ part_after (held_len narrow) (read_held narrow frame.now).number frame.now part.old) }
 {
     show_held(frame, part)
 }
 
-#[unsafe(no_mangle)]
-pub extern "C" fn bellacush_write_config(
-    req: u16,
-    pre: u16,
-    ben: u16,
-    qen: u16,
-    out: &mut [u8],
-) -> u32
+pub fn bellacush_write_config(req: u16, pre: u16, ben: u16, qen: u16, out: &mut [u8]) -> u32
     ensures { (result ≡ write_config_number out.old) × (out.new ≡ write_config_output (record { req = req; pre = pre; ben = ben; qen = qen }) out.old) }
 {
     frames::write_config(Config { req, pre, ben, qen }, out) as u32
 }
 
-#[unsafe(no_mangle)]
-pub extern "C" fn bellacush_write_grant3(
+pub fn bellacush_write_grant3(
     node: u32,
     val: u32,
     link: u32,

@@ -1,4 +1,4 @@
-// The frame calls of the C form, an object of its own: beside the slot call they would keep a reader from being part of it.
+// The frame calls of the C form. frame_calls_c gives them to C.
 mod exports;
 mod reading;
 mod writing;

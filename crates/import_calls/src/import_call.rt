@@ -23,8 +23,7 @@ fn report_bytes(told: Imported) -> [u8; REPORT_LEN]
     ]
 }
 
-#[unsafe(no_mangle)]
-pub extern "C" fn bellacush_import(
+pub fn bellacush_import(
     n: u32,
     mode: u32,
     i: u32,

@@ -1,4 +1,4 @@
-// The C form: the import of a capture.
+// The C form: the import of a capture. import_calls_c gives it to C.
 mod import_call;
 
 pub use import_call::bellacush_import;

@@ -30,8 +30,7 @@ fn asking(live: Table) -> Work
     }
 }
 
-#[unsafe(no_mangle)]
-pub extern "C" fn measured_plain(n: u32, i: u32, j: u32, live: &[u8], sets: &mut [u8])
+pub fn measured_plain(n: u32, i: u32, j: u32, live: &[u8], sets: &mut [u8])
     ensures { sets.new ≡ sets_after most_ports n i j live.now sets.old }
 {
     let after = serve_targets(state_at(n, i, j), asking(table_in(live)));
@@ -39,8 +38,7 @@ pub extern "C" fn measured_plain(n: u32, i: u32, j: u32, live: &[u8], sets: &mut
     put_table(held, sets);
 }
 
-#[unsafe(no_mangle)]
-pub extern "C" fn measured_columns(n: u32, i: u32, j: u32, live: &[u8], sets: &mut [u8])
+pub fn measured_columns(n: u32, i: u32, j: u32, live: &[u8], sets: &mut [u8])
     ensures { sets.new ≡ sets_after most_ports n i j live.now sets.old }
 {
     let held = serve_columns(state_at(n, i, j), asking(table_in(live)));

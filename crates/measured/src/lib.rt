@@ -1,4 +1,4 @@
-// What the tests and the benchmark call beside the C form: the checks and rule 5 alone.
+// What the tests and the benchmark call beside the C form: the checks and rule 5 alone. measured_c gives it to C.
 mod central_rule;
 
 ghost use Rattle.std.specs.Prelude.{◌≡◌, length};
@@ -7,15 +7,13 @@ ghost use Rattle.measured.specs.Checks.{checks_of, slot_checks};
 
 pub use central_rule::{measured_columns, measured_plain};
 
-#[unsafe(no_mangle)]
-pub extern "C" fn measured_crc(bytes: &[u8]) -> u16
+pub fn measured_crc(bytes: &[u8]) -> u16
     ensures { result ≡ crc_of bytes.now }
 {
     words::crc(bytes)
 }
 
-#[unsafe(no_mangle)]
-pub extern "C" fn measured_long_crc(bytes: &[u8]) -> u16
+pub fn measured_long_crc(bytes: &[u8]) -> u16
     ensures { result ≡ crc_of bytes.now }
 {
     long_check::long_crc(bytes)
@@ -29,8 +27,7 @@ fn both(part: &[u8]) -> u16
 }
 
 // All checks of one slot in one call, so that the compiler knows their lengths, as it does in the slot.
-#[unsafe(no_mangle)]
-pub extern "C" fn measured_checks(bytes: &[u8]) -> u16
+pub fn measured_checks(bytes: &[u8]) -> u16
     ensures { result ≡ slot_checks bytes.now }
 {
     if bytes.len() != 144 {

@@ -1,4 +1,4 @@
-// The C form: the queues of the compact shelf.
+// The C form: the queues of the compact shelf. queue_calls_c gives them to C.
 mod record_calls;
 mod slot_call;
 

@@ -9,15 +9,13 @@ ghost use Rattle.queue_calls.specs.Count.{count_word};
 
 use ports::{Initiator, Target};
 
-#[unsafe(no_mangle)]
-pub extern "C" fn bellacush_new_queues(records: &mut [u32], n: u32, pool: usize) -> u32
+pub fn bellacush_new_queues(records: &mut [u32], n: u32, pool: usize) -> u32
     ensures { (result ≡ new_number most_ports most_cells cell_len records.old n pool) × (records.new ≡ new_words most_ports most_cells cell_len records.old n pool) }
 {
     queue_records::new_queues(records, n as usize, pool) as u32
 }
 
-#[unsafe(no_mangle)]
-pub extern "C" fn bellacush_add_cell(
+pub fn bellacush_add_cell(
     records: &mut [u32],
     initiator: u32,
     target: u32,
@@ -35,8 +33,7 @@ pub extern "C" fn bellacush_add_cell(
     ) as u32
 }
 
-#[unsafe(no_mangle)]
-pub extern "C" fn bellacush_count_cells(records: &[u32], initiator: u32, target: u32) -> u32
+pub fn bellacush_count_cells(records: &[u32], initiator: u32, target: u32) -> u32
     ensures { result ≡ count_word (counted most_ports most_cells records.now initiator target) }
 {
     let counted = queue_entries::count(

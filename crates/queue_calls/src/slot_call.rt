@@ -32,8 +32,7 @@ fn store(stepped: Stepped, state: &mut [u8], table: &mut [u8])
     put_table(sets, table);
 }
 
-#[unsafe(no_mangle)]
-pub extern "C" fn bellacush_queue_slot(
+pub fn bellacush_queue_slot(
     state: &mut [u8],
     slot: u32,
     mode: u32,

@@ -1,4 +1,4 @@
-// The salvage of a trace as C calls it, with its length and body count in words that are lent.
+// The salvage of a trace, with its length and body count in words that are lent. salvage_calls_c gives it to C.
 #![tactic(auto)]
 
 ghost use Rattle.std.specs.Prelude.{◌≡◌};
@@ -7,13 +7,7 @@ ghost use Rattle.salvage_calls.specs.Salvaging.{salvaged_number, salvaged_shown,
 
 const SALVAGED_WORDS: usize = 2;
 
-#[unsafe(no_mangle)]
-pub extern "C" fn bellacush_salvage(
-    file: &[u8],
-    out: &mut [u8],
-    fates: &mut [u8],
-    shown: &mut [u32],
-) -> u32
+pub fn bellacush_salvage(file: &[u8], out: &mut [u8], fates: &mut [u8], shown: &mut [u32]) -> u32
     ensures { (result ≡ salvaged_number most_ports file.now out.old fates.old shown.old) × (out.new ≡ salvaged_output most_ports file.now out.old fates.old shown.old) × (fates.new ≡ salvaged_fates most_ports file.now out.old fates.old shown.old) × (shown.new ≡ salvaged_shown most_ports file.now out.old fates.old shown.old) }
 {
     if shown.len() != SALVAGED_WORDS {
