@@ -22,15 +22,15 @@ WARNINGS = -Wall -Wextra -Wpedantic -Werror
 # Another archive can stand in, as in: make test-c LIBRARY=elsewhere/libbellacush.a
 PROVED = build/libbellacush.a
 LIBRARY ?= $(PROVED)
-FIRMWARE = target/staticlib/libbellacush.a
-FRAMES = target/staticlib/libframe_calls.a
-COLLECTORS = target/staticlib/libcollector_calls.a
-QUEUES = target/staticlib/libqueue_calls.a
-IMPORTS = target/staticlib/libimport_calls.a
-SALVAGES = target/staticlib/libsalvage_calls.a
-MEASURED = target/staticlib/libmeasured.a
+FIRMWARE = build/proved/libbellacush_c.a
+FRAMES = build/proved/libframe_calls_c.a
+COLLECTORS = build/proved/libcollector_calls_c.a
+QUEUES = build/proved/libqueue_calls_c.a
+IMPORTS = build/proved/libimport_calls_c.a
+SALVAGES = build/proved/libsalvage_calls_c.a
+MEASURED = build/libmeasured.a
 HEADER = include/bellacush.h
-SOURCES = crates.txt $(shell find crates -name '*.rt' -o -name '*.antt')
+SOURCES = crates.txt $(shell find crates -name out -prune -o \( -name '*.rt' -o -name '*.antt' \) -print)
 CARGO = BELLACUSH_ARCHIVE='$(abspath $(LIBRARY))' cargo
 
 .PHONY: all run test test-rust test-c bench before install clean
@@ -38,9 +38,13 @@ CARGO = BELLACUSH_ARCHIVE='$(abspath $(LIBRARY))' cargo
 all: $(LIBRARY) build/shelf build/compact build/replay build/import build/salvage
 
 # The slot call, the frame calls, the collectors' calls, the queues, the import, the salvage, and what the tests and the benchmark link besides.
-$(FIRMWARE) $(FRAMES) $(COLLECTORS) $(QUEUES) $(IMPORTS) $(SALVAGES) $(MEASURED): target/staticlib/lib%.a: $(SOURCES)
-	rt staticlib $*
-	@touch $@
+$(FIRMWARE) $(FRAMES) $(COLLECTORS) $(QUEUES) $(IMPORTS) $(SALVAGES) build/proved/libmeasured_c.a: build/proved/lib%.a: $(SOURCES)
+	@mkdir -p $(@D)
+	cd crates/$* && rt lib
+	cp crates/$*/out/$(@F) $@
+
+$(MEASURED): build/proved/libmeasured_c.a
+	cp $< $@
 
 # An object of its own keeps the slot call fast and its stack low: nothing else in it calls what the slot is made of.
 $(PROVED): $(FIRMWARE) $(FRAMES) $(COLLECTORS) $(QUEUES) $(IMPORTS) $(SALVAGES)
@@ -51,12 +55,19 @@ build/shelf build/compact: build/%: firmware/%.c $(HEADER) $(LIBRARY)
 	@mkdir -p build
 	$(CC) -std=c99 $(WARNINGS) $(CFLAGS) -Iinclude -o $@ $< $(LIBRARY)
 
-# The programs are proved as the library is.
-target/bin/replay target/bin/import target/bin/salvage: target/bin/%: $(SOURCES)
-	rt check $*
-	@touch $@
+# The programs are proved as the library is, and the gate leaves them where they are proved. Only a run makes one
+# elsewhere: with no arguments and no input it does nothing, and what it says of that is shown only if no program came of it.
+PROGRAMS = crates/replay/out/replay crates/import/out/import crates/salvage/out/salvage
 
-build/replay build/import build/salvage: build/%: target/bin/%
+$(PROGRAMS): $(SOURCES)
+	@mkdir -p $(@D)
+	rm -f $@
+	cd crates/$(@F) && { rt run </dev/null >out/run.log 2>&1; test -x out/$(@F) || { cat out/run.log; false; }; }
+
+build/replay: crates/replay/out/replay
+build/import: crates/import/out/import
+build/salvage: crates/salvage/out/salvage
+build/replay build/import build/salvage:
 	@mkdir -p build
 	cp $< $@
 
@@ -105,17 +116,23 @@ before:
 	objcopy --redefine-sym bellacush_slot=before_slot --keep-global-symbol=before_slot $(BEFORE) $(RENAMED)
 
 # The same sources with the plain rule at every port count: what the columns are measured against.
-PLAIN_RULE = target/plain_rule/libplain_rule.a
+PLAIN_RULE = build/plain_rule/libplain_rule.a
+PLAIN_PARTS = $(FIRMWARE:build/proved/%=build/plain_rule/%) $(COLLECTORS:build/proved/%=build/plain_rule/%)
 
+# The copy stands elsewhere, since the gate refuses sources that no crate of the repository holds.
 $(PLAIN_RULE): $(FIRMWARE) $(COLLECTORS)
 	rm -rf $(@D)
-	mkdir -p $(@D)/target
-	cp -r crates crates.txt $(@D)
-	cp -r $(filter-out target/plain_rule target/staticlib,$(wildcard target/*)) $(@D)/target
-	grep -q '^const COLUMNS_FROM: usize = [0-9]*;' $(@D)/crates/lcf/src/slot.rt
-	sed -i 's/^const COLUMNS_FROM: usize = .*/const COLUMNS_FROM: usize = State::MOST + 1;/' $(@D)/crates/lcf/src/slot.rt
-	cd $(@D) && rt staticlib bellacush && rt staticlib collector_calls
-	printf 'create %s\naddlib %s\naddlib %s\nsave\nend\n' $@ $(FIRMWARE:%=$(@D)/%) $(COLLECTORS:%=$(@D)/%) | ar -M
+	mkdir -p $(@D)
+	grep -q '^const COLUMNS_FROM: usize = [0-9]*;' crates/lcf/src/slot.rt
+	set -e; copy=$$(mktemp -d); trap 'rm -rf "$$copy"' EXIT; \
+	tar -c --exclude='crates/*/out' crates crates.txt | tar -x -C "$$copy"; \
+	sed -i 's/^const COLUMNS_FROM: usize = .*/const COLUMNS_FROM: usize = State::MOST + 1;/' "$$copy/crates/lcf/src/slot.rt"; \
+	for part in $(PLAIN_PARTS); do \
+	    name=$$(basename "$$part" .a); name=$${name#lib}; \
+	    (cd "$$copy/crates/$$name" && rt lib); \
+	    cp "$$copy/crates/$$name/out/lib$$name.a" "$$part"; \
+	done
+	printf 'create %s\naddlib %s\naddlib %s\nsave\nend\n' $@ $(PLAIN_PARTS) | ar -M
 	objcopy --redefine-sym bellacush_slot=plain_rule_slot --redefine-sym bellacush_replay=plain_rule_replay \
 	    --keep-global-symbol=plain_rule_slot --keep-global-symbol=plain_rule_replay $@
 
@@ -131,4 +148,4 @@ install: $(LIBRARY)
 	  > '$(DESTDIR)$(PREFIX)/lib/pkgconfig/bellacush.pc'
 
 clean:
-	rm -rf build target
+	rm -rf build crates/*/out

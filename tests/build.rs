@@ -9,7 +9,7 @@ fn main() {
     let archive = env::var_os("BELLACUSH_ARCHIVE").map(PathBuf::from);
     let proved = root.join("build/libbellacush.a");
     link("bellacush", &archive.unwrap_or(proved));
-    link("measured", &root.join("target/staticlib/libmeasured.a"));
+    link("measured", &root.join("build/libmeasured.a"));
 }
 
 fn link(name: &str, archive: &Path) {
