@@ -1,4 +1,6 @@
 // The card's slot loop keeps one state and lends it for each slot call.
+#![tactic(auto)]
+
 ghost use Rattle.frames.specs.Part.{most_ports};
 ghost use Rattle.card.specs.Slot.{Lent};
 
