@@ -1,4 +1,6 @@
 // The replay of a body of a trace: the tables that its slots gave.
+#![tactic(auto)]
+
 ghost use Rattle.std.specs.Prelude.{◌≡◌, ◌++◌, ◌≤◌, length, drop};
 ghost use Rattle.frames.specs.Part.{most_ports};
 ghost use Rattle.table_bytes.specs.Table.{table_put};
