@@ -4,8 +4,7 @@ use mathlib.Core.Bool.{Bool, true, false}
 use mathlib.Core.List.{List, [], ◌++◌, append-nil}
 use Prim.Native.Nat.{ℕ}
 use native.Mathlib.Nat.{le_of_eq}
-use lib.ListN.{length, take, drop, drop_of_length-le}
-use lib.Seq.{take-length}
+use lib.ListN.{length, drop, drop_of_length-le}
 use borrow.Author.Tests.{ne_eqb}
 use Rattle.lent.specs.Filled.{fitted_number, filled_after}
 
@@ -27,7 +26,7 @@ module _ (fits : Bool) (number : ℕ) (filled lent : List ℕ) where
   fills e none left is = rw (e, none) (refl, is)
 
 -- a whole copy in the place of as many bytes
-pub copied : (s part last : List ℕ) → length part ≡ length s → last ≡ take (length s) s ++ drop (length s) part → last ≡ s
+pub copied : (s part last : List ℕ) → length part ≡ length s → last ≡ s ++ drop (length s) part → last ≡ s
 copied s part last h e =
     let none : drop (length s) part ≡ [] = drop_of_length-le part (le_of_eq h) in
-    e ∙ rw (take-length, none, append-nil)
+    e ∙ rw (none, append-nil)
