@@ -12,7 +12,7 @@ use Rattle.lent.proofs.Fills.{copied}
 
 -- copied to a part of as many bytes
 pub shown : (len : ℕ) (frame part : List ℕ) → 3 ≤ len → length part ≡ len - 3 → length frame ≡ len → (last : List ℕ)
-    → last ≡ take (length (take (len - 2 - 1) (drop 1 frame))) (take (len - 2 - 1) (drop 1 frame)) ++ drop (length (take (len - 2 - 1) (drop 1 frame))) part
+    → last ≡ take (len - 2 - 1) (drop 1 frame) ++ drop (length (take (len - 2 - 1) (drop 1 frame))) part
     → last ≡ body_of len frame
 shown len frame part three same whole last e =
     let three-less : len - 2 - 1 ≡ len - 3 = omega arith in

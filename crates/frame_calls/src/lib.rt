@@ -1,4 +1,6 @@
 // The frame calls of the C form. frame_calls_c gives them to C.
+#![tactic(auto)]
+
 mod exports;
 mod reading;
 mod writing;
