@@ -1,4 +1,6 @@
 // The scheduler's slot over the queues: which pairs ask, and what the scheduler answers.
+#![tactic(auto)]
+
 mod asking;
 mod stepping;
 

@@ -1,9 +1,0 @@
--- `queue_steps::asking::put` meets its contract.
-use borrow.Author.Rules.{rules}
-use Rattle.laws.proofs.Words.{or_puts}
-use Rattle.frames.specs.Part.{most_ports}
-use Rattle.queue_steps.proofs.asking.put.Statement.{statement}
-use Rattle.queue_steps.proofs.asking.put.Tie as tie
-
-pub put_spec : {M : Type 1} → statement M
-put_spec = tie.close (tie.spec (λ c. search rules) (λ c. search rules) (λ c. or_puts most_ports c.args.s c.args.k c.requires))
