@@ -1,7 +1,7 @@
 -- Bytes in place of others.
-use Rattle.std.proofs.Common.{◌≡◌, ℕ, zero, suc, ◌+◌, ◌-◌, ◌<◌, ◌≤◌, List, ◌∷◌, ◌++◌, length, get_or, take, drop, set, replicate, refl, ap, ◌∙◌, append_assoc, append-nil, le_refl, add-one, arith, length-append, length-drop, drop_of_length-le, drop-cons, drop-drop}
+use Rattle.std.proofs.Common.{◌≡◌, ℕ, zero, suc, ◌+◌, ◌-◌, ◌<◌, ◌≤◌, List, ◌∷◌, ◌++◌, length, get_or, drop, set, replicate, refl, ap, ◌∙◌, append_assoc, append-nil, le_refl, add-one, arith, length-append, length-drop, drop_of_length-le, drop-cons, drop-drop}
 use lib.ListN.{length-replicate}
-use lib.Seq.{take-length, set_at, take-append-le, drop-append-le, take-append-add, drop-append-add}
+use lib.Seq.{set_at, take-append-le, drop-append-le, take-append-add, drop-append-add}
 use borrow.Rule.Slice.PartMut.{mid_of, put_mid, mid_len}
 use Rattle.import_steps.specs.Laying.{over}
 
@@ -26,11 +26,11 @@ lent_over at end x s last e is =
     let k : end - at ≡ length x = omega arith in
     rw (is, k, drop-drop (length x) at s)
 
-pub over_copy : (at end : ℕ) (x s last : List ℕ) → end ≡ at + length x → end ≤ length s → last ≡ take (length x) x ++ drop (length x) (mid_of at (end - at) s)
+pub over_copy : (at end : ℕ) (x s last : List ℕ) → end ≡ at + length x → end ≤ length s → last ≡ x ++ drop (length x) (mid_of at (end - at) s)
     → put_mid at (end - at) s last ≡ over at x s
 over_copy at end x s last e room is =
     let none : length (mid_of at (end - at) s) ≤ length x = omega (arith, mid_len at end s room) in
-    lent_over at end x s last e (is ∙ rw (take-length, drop_of_length-le (mid_of at (end - at) s) none, append-nil))
+    lent_over at end x s last e (is ∙ rw (drop_of_length-le (mid_of at (end - at) s) none, append-nil))
 
 pub over_blank : (at len end : ℕ) (s last : List ℕ) → end ≡ at + len → end ≤ length s → last ≡ replicate (length (mid_of at (end - at) s)) 0
     → put_mid at (end - at) s last ≡ over at (replicate len 0) s

@@ -1,4 +1,6 @@
 // The import of a capture, a record at a time: what is known of the records taken goes by value, the open body is lent.
+#![tactic(auto)]
+
 mod advancing;
 mod laying;
 mod listing;
