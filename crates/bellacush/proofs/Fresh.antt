@@ -36,6 +36,6 @@ module _ (m n due : ℕ) (operators state : List ℕ) where
     pub refused : (made.number ≡ 0 → ⊥) → Ends made.number state
     refused some = rw (← is_fresh) (declines _ _ _ _ fit some)
 
-    pub made_so : made.number ≡ 0 → (bytes last : List ℕ) → bytes ≡ state_bytes made.state → last ≡ take (length bytes) bytes ++ drop (length bytes) state → Ends 0 last
+    pub made_so : made.number ≡ 0 → (bytes last : List ℕ) → bytes ≡ state_bytes made.state → last ≡ bytes ++ drop (length bytes) state → Ends 0 last
     made_so none bytes last are wrote =
         rw (← is_fresh) (fills _ _ _ _ fit none last (copied bytes state last (nine ∙ sym (ap length are ∙ length_state made.state)) wrote ∙ are))

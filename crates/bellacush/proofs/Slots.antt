@@ -22,7 +22,7 @@ unfolding state_after table_after
 kept r state table some = rw (ne_eqb _ 0 some) (refl, refl)
 
 pub stored : (m : ℕ) (r : Stepped) (state table bytes last lastly : List ℕ) → r.answer.number ≡ 0 → length state ≡ state_len → length table ≡ table_len m → length r.answer.sets ≡ m → bytes ≡ state_bytes r.state
-    → last ≡ take (length bytes) bytes ++ drop (length bytes) state → lastly ≡ table_put m r.answer.sets table → (last ≡ state_after r state) × (lastly ≡ table_after r table)
+    → last ≡ bytes ++ drop (length bytes) state → lastly ≡ table_put m r.answer.sets table → (last ≡ state_after r state) × (lastly ≡ table_after r table)
 unfolding state_after table_after
 stored m r state table bytes last lastly none nine long rows are wrote put =
     rw (eq-eqb _ 0 none) (copied bytes state last (nine ∙ sym (ap length are ∙ length_state r.state)) wrote ∙ are, put ∙ table_filled m table long r.answer.sets rows)

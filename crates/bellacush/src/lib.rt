@@ -1,4 +1,6 @@
 // The C form: the slot call and the call that makes a fresh state. bellacush_c gives them to C.
+#![tactic(auto)]
+
 mod fresh_call;
 mod slot_call;
 
