@@ -1,4 +1,6 @@
 // What the tests and the benchmark call beside the C form: the checks and rule 5 alone. measured_c gives it to C.
+#![tactic(auto)]
+
 mod central_rule;
 
 ghost use Rattle.std.specs.Prelude.{◌≡◌, length};
