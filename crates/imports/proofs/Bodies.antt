@@ -2,7 +2,7 @@
 use mathlib.Core.Path.{◌≡◌, sym, ap, ◌∙◌}
 use mathlib.Core.Logic.{⊎_elim}
 use mathlib.Core.Bool.{true}
-use mathlib.Core.List.{List, [], ◌∷◌, ◌++◌, map, map_append}
+use mathlib.Core.List.{List, [], ◌∷◌, ◌++◌, map, map-append}
 use Prim.Native.Nat.{ℕ, suc, ◌+◌, ◌*◌, ◌≤◌, ◌<◌}
 use native.Mathlib.Nat.{suc-mul, le_of_suc-le-suc, eq-or-lt_of_le}
 use native.Mathlib.Omega.{arith}
@@ -55,13 +55,13 @@ module _ (n : ℕ) (bs : List Body) (b : Body) where
 
   sound_last : (k : ℕ) → k ≡ length bs → body_sound most_ports n (length b.slots) (body_bytes n b) ≡ true → SoundAt k
   sound_last k e one =
-      rw (map_append (λ (c : Body). length c.slots) bs (b ∷ []), map_append (body_bytes n) bs (b ∷ []), get_or_at (counts_of bs) (length b.slots) [] 0 k (length-map bs (λ (c : Body). length c.slots) ∙ sym e), get_or_at (map (body_bytes n) bs) (body_bytes n b) [] [] k (length-map bs (body_bytes n) ∙ sym e)) one
+      rw (map-append (λ (c : Body). length c.slots) bs (b ∷ []), map-append (body_bytes n) bs (b ∷ []), get_or_at (counts_of bs) (length b.slots) [] 0 k (length-map bs (λ (c : Body). length c.slots) ∙ sym e), get_or_at (map (body_bytes n) bs) (body_bytes n b) [] [] k (length-map bs (body_bytes n) ∙ sym e)) one
 
   sound_before : (k : ℕ) → k < length bs → SoundBodies n bs → SoundAt k
   sound_before k l each =
       let counts : k < length (counts_of bs) = rw (length-map bs (λ (c : Body). length c.slots)) l in
       let bytes : k < length (map (body_bytes n) bs) = rw (length-map bs (body_bytes n)) l in
-      rw (map_append (λ (c : Body). length c.slots) bs (b ∷ []), map_append (body_bytes n) bs (b ∷ []), get_or-append (counts_of bs) (length b.slots ∷ []) 0 k counts, get_or-append (map (body_bytes n) bs) (body_bytes n b ∷ []) [] k bytes) (each k l)
+      rw (map-append (λ (c : Body). length c.slots) bs (b ∷ []), map-append (body_bytes n) bs (b ∷ []), get_or-append (counts_of bs) (length b.slots ∷ []) 0 k counts, get_or-append (map (body_bytes n) bs) (body_bytes n b ∷ []) [] k bytes) (each k l)
 
   pub sound_more : SoundBodies n bs → body_sound most_ports n (length b.slots) (body_bytes n b) ≡ true → SoundBodies n (bs ++ (b ∷ []))
   sound_more each one k l =

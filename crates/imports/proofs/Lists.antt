@@ -1,7 +1,7 @@
 -- Lists one after the other, and a part of a row of parts that is put anew.
 use mathlib.Core.Path.{◌≡◌, refl, ap, ◌∙◌}
 use mathlib.Core.Logic.{⊎_elim}
-use mathlib.Core.List.{List, [], ◌∷◌, ◌++◌, append-nil, map, map_append}
+use mathlib.Core.List.{List, [], ◌∷◌, ◌++◌, append-nil, map, map-append}
 use Prim.Native.Nat.{ℕ, zero, suc, ◌+◌, ◌*◌, ◌≤◌, ◌<◌}
 use native.Mathlib.Nat.{le_of_suc-le-suc, eq-or-lt_of_le, not-suc-le-zero, mul-le-mul_right, suc-mul}
 use native.Mathlib.Numerals.{add-one}
@@ -30,7 +30,7 @@ joined_snoc xs x =
     (ap (λ (l : List ℕ). l ++ x) (same_steps _ _ [] (length xs) (λ k u l. ap (λ (z : List ℕ). u ++ z) (get_or-append xs (x ∷ []) [] k l))))
 
 pub joined_map : {A : Type 0} (f : A → List ℕ) (xs : List A) (x : A) → joined (map f (xs ++ (x ∷ []))) ≡ joined (map f xs) ++ f x
-joined_map f xs x = rw (map_append f xs (x ∷ [])) (joined_snoc (map f xs) (f x))
+joined_map f xs x = rw (map-append f xs (x ∷ [])) (joined_snoc (map f xs) (f x))
 
 -- part h of parts of one width w put anew
 module _ (f g : ℕ → List ℕ) (w : ℕ) (each : (i : ℕ) → length (f i) ≡ w) (x : List ℕ) (long : length x ≡ w) where

@@ -1,7 +1,7 @@
 -- The first slots and slot counts that are noted are those of the bodies.
 use mathlib.Core.Path.{◌≡◌, refl, sym, ap, ◌∙◌}
 use mathlib.Core.Bool.{Bool, true, false, cond}
-use mathlib.Core.List.{List, [], ◌∷◌, ◌++◌, map, map_append}
+use mathlib.Core.List.{List, [], ◌∷◌, ◌++◌, map, map-append}
 use Prim.Native.Nat.{ℕ, suc, ◌+◌, ◌-◌, ◌≤◌}
 use native.Mathlib.Omega.{arith}
 use lib.ListN.{length, set, take, length-map, length-set}
@@ -34,12 +34,12 @@ module _ (f : Body → ℕ) (bs : List Body) (b : Body) (s : List ℕ) (count : 
   noted_open room e =
       let there : between 1 (length s) count ≡ true = in_range {x = count} (omega arith) room in
       let back : count - 1 ≡ length bs = omega arith in
-      rw (there, back, is, take-suc-set s (length bs) (f b) (omega arith), e, map_append f bs (b ∷ []))
+      rw (there, back, is, take-suc-set s (length bs) (f b) (omega arith), e, map-append f bs (b ∷ []))
 
   -- and what was noted of those before it
   noted-front : take count s ≡ map f (bs ++ (b ∷ [])) → take (length bs) s ≡ map f bs
   noted-front e =
-      sym (take-take (length bs) count s (omega arith)) ∙ ap (take (length bs)) (e ∙ map_append f bs (b ∷ [])) ∙ take_at (map f bs) (f b ∷ []) (length bs) (length-map bs f)
+      sym (take-take (length bs) count s (omega arith)) ∙ ap (take (length bs)) (e ∙ map-append f bs (b ∷ [])) ∙ take_at (map f bs) (f b ∷ []) (length bs) (length-map bs f)
 
 -- of all bodies
 abbrev pub Noted : (Body → ℕ) → Cut → List ℕ → Type 0

@@ -1,4 +1,6 @@
 // The import of a whole capture.
+#![tactic(auto)]
+
 mod importing;
 mod laying;
 mod scanning;
