@@ -1,7 +1,7 @@
 -- Resent frames change nothing but their count: the trace is told by the records that are not resent.
 use mathlib.Core.Path.{◌≡◌, refl, sym, ap, ◌∙◌}
 use mathlib.Core.Bool.{Bool, true, false, cond, true≢false}
-use mathlib.Core.List.{List, [], ◌∷◌, ◌++◌, map, map_append}
+use mathlib.Core.List.{List, [], ◌∷◌, ◌++◌, map, map-append}
 use Prim.Native.Nat.{ℕ, suc}
 use lib.Dec.{eqb}
 use lib.ListN.{length}
@@ -81,9 +81,9 @@ record Same (n : ℕ) (xs ys : List Body) : Type 0 where
 
 same_more : (n : ℕ) (xs ys : List Body) (a b : Body) → Same n xs ys → a.first ≡ b.first → length a.slots ≡ length b.slots → body_bytes n a ≡ body_bytes n b → Same n (xs ++ (a ∷ [])) (ys ++ (b ∷ []))
 same_more n xs ys a b s first count bytes = record {
-  firsts = map_append (λ (c : Body). c.first) xs (a ∷ []) ∙ rw (s.firsts, first) (sym (map_append (λ (c : Body). c.first) ys (b ∷ [])));
-  counts = map_append (λ (c : Body). length c.slots) xs (a ∷ []) ∙ rw (s.counts, count) (sym (map_append (λ (c : Body). length c.slots) ys (b ∷ [])));
-  bytes = map_append (body_bytes n) xs (a ∷ []) ∙ rw (s.bytes, bytes) (sym (map_append (body_bytes n) ys (b ∷ [])));
+  firsts = map-append (λ (c : Body). c.first) xs (a ∷ []) ∙ rw (s.firsts, first) (sym (map-append (λ (c : Body). c.first) ys (b ∷ [])));
+  counts = map-append (λ (c : Body). length c.slots) xs (a ∷ []) ∙ rw (s.counts, count) (sym (map-append (λ (c : Body). length c.slots) ys (b ∷ [])));
+  bytes = map-append (body_bytes n) xs (a ∷ []) ∙ rw (s.bytes, bytes) (sym (map-append (body_bytes n) ys (b ∷ [])));
 }
 
 same_trace : (n : ℕ) (xs ys : List Body) → Same n xs ys → trace_for n xs ≡ trace_for n ys

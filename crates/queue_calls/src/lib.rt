@@ -1,4 +1,6 @@
 // The C form: the queues of the compact shelf. queue_calls_c gives them to C.
+#![tactic(auto)]
+
 mod record_calls;
 mod slot_call;
 
