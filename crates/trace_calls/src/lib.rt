@@ -1,4 +1,6 @@
 // The trace calls of the C form, over plain numbers and slices; the C names stand with the other calls.
+#![tactic(auto)]
+
 mod reading;
 mod replaying;
 mod writing;
