@@ -1,4 +1,6 @@
 // The C form: what the collectors' backend links besides. collector_calls_c gives it to C.
+#![tactic(auto)]
+
 mod ledger_calls;
 mod trace_exports;
 
