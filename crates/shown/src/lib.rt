@@ -1,4 +1,4 @@
-// A slot and its answer as one line of text.
+// A slot and its answer as one line of text. An error is that of printing; the text may then stand there in part.
 #![tactic(auto)]
 
 ghost use Rattle.std.specs.Prelude.{◌≡◌};
