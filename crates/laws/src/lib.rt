@@ -1,1 +1,3 @@
+#![tactic(auto)]
+
 // Laws that the proofs of the other crates share. No code.

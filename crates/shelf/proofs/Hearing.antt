@@ -1,8 +1,7 @@
 -- One host more is heard, or is not: what the rows and the set of heard hosts come to.
 use mathlib.Core.Path.{◌≡◌, refl, sym, ap, ◌∙◌}
 use mathlib.Core.Bool.{Bool, true, false}
-use mathlib.Core.List.{List, [], ◌∷◌}
-use mathlib.Core.Logic.{⊎_elim}
+use mathlib.Core.List.{List}
 use Prim.Native.Nat.{ℕ, zero, suc, ◌+◌, ◌*◌, ◌%◌, ◌^◌, ◌≤◌, ◌<◌}
 use native.Mathlib.Omega.{arith}
 use native.Mathlib.Numerals.{add-one}
@@ -10,8 +9,6 @@ use lib.Bits.{bit_or}
 use lib.Dec.{eqb}
 use lib.ListN.{get_or, set, replicate}
 use lib.Seq.{get_or-set_other, set-get_or}
-use types.Run.{OneOf}
-use denote.Enum.Declared.{tag_of}
 use Rattle.laws.specs.Steps.{steps}
 use Rattle.laws.specs.Sets.{gathered, tabled}
 use Rattle.laws.proofs.Rows.{next_row, no_bits}
@@ -21,7 +18,6 @@ use Rattle.frames.specs.Config.{no_config, config_answer}
 use Rattle.frames.specs.declared.config.Config.{Config}
 use Rattle.frames.specs.declared.config.ConfigRead.{ConfigRead}
 use Rattle.frames.specs.declared.config.ConfigRead.TheVariants.{Frame, WrongLength, WrongType, WrongCheck}
-use Rattle.frames.specs.contracts.config.ConfigRead as T
 use Rattle.shelf.specs.Hosts.{said, is_heard, field_of, hosts_of}
 
 -- an answer that is no frame: a number, and zero fields
