@@ -1,7 +1,7 @@
 -- How far from the best, in one list: each line names theorems, which stand where they are proved, over definitions in specs/. `m` is the greatest
 -- port count.
 
--- No conflict_free set of a slot's live requests has more than twice as many pairs as the slot joins after its planned stage: of central and of
+-- No conflict-free set of a slot's live requests has more than twice as many pairs as the slot joins after its planned stage: of central and of
 -- diagonal-first slots, and of distributed slots whose limit is n or more. Slot calls on frames, and calls on tables. How many it joins is one number.
 pub use Rattle.best.proofs.Half.{half, half_on_tables}
 pub use Rattle.best.proofs.Counting.{exactly_one}

@@ -30,7 +30,7 @@ pub exactly_one : (P : ℕ → ℕ → Type 0) (xs ys : List Pair) → Exactly P
 exactly_one P xs ys p q =
     omega (arith, no_longer xs ys p.once (λ x m. q.all x.0 x.1 (p.only x.0 x.1 m)), no_longer ys xs q.once (λ y m. p.all y.0 y.1 (q.only y.0 y.1 m)))
 
--- each of some rows and columns meets one of a conflict_free set, and no more
+-- each of some rows and columns meets one of a conflict-free set, and no more
 pub meets : (pairs : List Pair) (rows columns : List ℕ) → NoneTwice (initiators pairs) → NoneTwice (targets pairs)
     → ((i t : ℕ) → Memᴰ (i, t) pairs → Memᴰ i rows ⊎ Memᴰ t columns) → length pairs ≤ length rows + length columns
 unfolding NoneTwice

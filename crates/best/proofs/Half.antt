@@ -1,4 +1,4 @@
--- No conflict_free set of a slot's live requests has more than twice as many pairs as the slot joins after its planned stage.
+-- No conflict-free set of a slot's live requests has more than twice as many pairs as the slot joins after its planned stage.
 use mathlib.Core.Path.{◌≡◌, sym, ap, subst₂, ◌∙◌}
 use mathlib.Core.Logic.{◌⊎◌, inl, inr, ⊎_elim, ◌↔◌}
 use mathlib.Core.Bool.{Bool, true, false, not, ◌&&◌, true≢false}

@@ -14,7 +14,7 @@ pub record Joined (Given : ℕ → ℕ → Type 0) (sets : List ℕ) (i t : ℕ)
   pub connected : asks sets i t ≡ true
   pub not_given : Given i t → ⊥
 
--- no conflict_free set of its live requests has more than k times as many pairs as it joins after its planned stage
+-- no conflict-free set of its live requests has more than k times as many pairs as it joins after its planned stage
 pub record AtMost (k : ℕ) (Live Given : ℕ → ℕ → Type 0) (sets : List ℕ) : Type 0 where
   pub joined : List Pair
   pub exactly : Exactly (Joined Given sets) joined
@@ -34,7 +34,7 @@ EnoughOnTables m n mode k = (st : State) (c : tables.Call) → st.ports ≡ n �
 abbrev pub factor : ℕ
 factor = 2
 
--- the best: a conflict_free set of live requests, and none has more pairs
+-- the best: a conflict-free set of live requests, and none has more pairs
 pub record Best (Live : ℕ → ℕ → Type 0) (best : List Pair) : Type 0 where
   pub conflict_free : ConflictFree Live best
   pub no_more : (pairs : List Pair) → ConflictFree Live pairs → length pairs ≤ length best

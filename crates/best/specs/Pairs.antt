@@ -16,7 +16,7 @@ unfoldable pub NoneTwice : {A : Type 0} → List A → Type 0
 NoneTwice [] = Unit {0}
 NoneTwice (x ∷ rest) = (Memᴰ x rest → ⊥) × NoneTwice rest
 
--- a conflict_free set of live requests: no initiator and no target twice
+-- a conflict-free set of live requests: no initiator and no target twice
 pub record ConflictFree (Live : ℕ → ℕ → Type 0) (pairs : List Pair) : Type 0 where
   pub live : (i t : ℕ) → Memᴰ (i, t) pairs → Live i t
   pub no_initiator_twice : NoneTwice (initiators pairs)
