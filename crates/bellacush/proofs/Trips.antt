@@ -2,7 +2,7 @@
 use mathlib.Core.Path.{◌≡◌}
 use Prim.Native.Nat.{◌/◌, ◌%◌, ◌<◌}
 use native.Mathlib.Omega.{arith}
-use Rattle.ports.specs.declared.answer.Answer.{Answer}
+use Rattle.ports.specs.Answer.{Answer}
 use Rattle.bellacush.specs.Slot.{word_of}
 
 module _ (a : Answer) (small : a.number < 256) where

@@ -14,4 +14,4 @@ module _ (m n due : ℕ) (operators state : List ℕ) where
 
   -- the bytes of the fresh state; or as they were, where the call declines
   abbrev pub fresh_state : List ℕ
-  fresh_state = filled_after fresh_number (state_bytes (fresh m n due operators).state) state
+  fresh_state = filled_after fresh_number (state_bytes (fresh m n due operators).fields) state

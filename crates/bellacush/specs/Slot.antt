@@ -2,8 +2,8 @@
 use Rattle.std.specs.Prelude.{ℕ, ◌+◌, ◌*◌, Bool, ◌&&◌, cond, List, eqb, length}
 use Rattle.laws.specs.Bytes.{row}
 use Rattle.ports.specs.Modes.{mode_of}
-use Rattle.ports.specs.declared.answer.Answer.{Answer}
-use Rattle.ports.specs.declared.answer.Stepped.{Stepped}
+use Rattle.ports.specs.Answer.{Answer}
+use Rattle.ports.specs.Answer.{Stepped}
 use Rattle.table_bytes.specs.State.{state_len, state_of, state_bytes}
 use Rattle.table_bytes.specs.Table.{table_len}
 use Rattle.shelf.specs.Step.{stepped, output}

@@ -5,4 +5,4 @@ mod fresh_call;
 mod slot_call;
 
 pub use fresh_call::bellacush_fresh;
-pub use slot_call::bellacush_slot;
+pub use slot_call::{bellacush_slot, finish_call};

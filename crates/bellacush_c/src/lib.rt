@@ -1,4 +1,5 @@
 // The slot call and the call that makes a fresh state, as C calls them: an object of their own.
+// C has a name for each, so each is one call of the crate below.
 #![tactic(auto)]
 
 ghost use Rattle.std.specs.Prelude.{◌≡◌};

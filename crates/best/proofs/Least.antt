@@ -10,12 +10,12 @@ use lib.ListN.{get_or, length-replicate}
 use Rattle.laws.specs.Sets.{has}
 use Rattle.laws.proofs.Members.{has_none, below_has}
 use Rattle.laws.proofs.Parts.{length_parts, part_at}
-use Rattle.frames.specs.Frame.{Answer}
+use Rattle.std.specs.Prelude.{Ok}
+use Rattle.refusals.specs.Numbers.{Answer, answer_of}
 use Rattle.frames.specs.Width.{narrow}
 use Rattle.frames.specs.Part.{frame_len}
-use Rattle.frames.specs.Config.{config_fields, config_frame, config_answer, read_config}
+use Rattle.frames.specs.Config.{config_fields, config_frame, no_config, read_config}
 use Rattle.frames.specs.declared.config.Config.{Config}
-use Rattle.frames.specs.declared.config.ConfigRead.TheVariants.{Frame}
 use Rattle.frames.proofs.ConfigLaws.{length_config, config_reads}
 use Rattle.ports.specs.declared.state.Mode.{Mode}
 use Rattle.ports.proofs.Owners.{no_owners}
@@ -53,7 +53,7 @@ lets (suc zero) h = refl
 lets (suc (suc i)) h = absurd (omega arith)
 
 module _ (n : ℕ) (two : 2 ≤ n) where
-  cross_says : (h : ℕ) → h < n → says n (cross_block n) h ≡ config_answer (Frame (cross_host h))
+  cross_says : (h : ℕ) → h < n → says n (cross_block n) h ≡ answer_of no_config (Ok (cross_host h))
   cross_says h h< = ap read_config (part_at (λ h. config_frame (cross_host h)) (frame_len n) (λ h. length_config (cross_host h)) n h h<) ∙ config_reads (cross_host h) (fits h)
 
   cross_enabled : (i : ℕ) → i < 2 → Enabled n 0 (cross_block n) i

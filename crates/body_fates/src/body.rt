@@ -1,34 +1,46 @@
 // What becomes of a body.
 ghost use Rattle.std.specs.Prelude.{◌≡◌};
 ghost use Rattle.frames.specs.Part.{most_ports};
-ghost use Rattle.body_fates.specs.Fate.{fate};
+ghost use Rattle.body_fates.specs.Fate.{fate_number, fate};
 
-#[derive(Clone, Copy)]
-pub struct Fate {}
+use long_check::ByTables;
+use words::intact;
 
-impl Fate {
-    pub const KEPT: u8 = 0;
-    // Dropped: there are not as many bytes as its entry says; its check differs; its mode, I or J is out of form.
-    pub const SHORT: u8 = 1;
+// Kept, or dropped: there are not as many bytes as its entry says; its check differs; its mode, I or J is out of form.
+#[derive(Clone, Copy, Debug, PartialEq, Eq)]
+pub enum Fate {
+    Kept,
+    Short,
+    Check,
+    Form,
+}
 
-    pub const CHECK: u8 = 2;
-
-    pub const FORM: u8 = 3;
+// The bytes of C's table.
+impl From<Fate> for u8 {
+    fn from(fate: Fate) -> u8
+        ensures { result ≡ fate_number fate }
+    {
+        match fate {
+            Fate::Kept => 0,
+            Fate::Short => 1,
+            Fate::Check => 2,
+            Fate::Form => 3,
+        }
+    }
 }
 
 // Of a body for n ports, of so many slots by its entry.
-pub(crate) fn body_fate(n: usize, slots: u16, body: &[u8]) -> u8
+pub(crate) fn body_fate(n: usize, slots: u16, body: &[u8]) -> Fate
     ensures { result ≡ fate most_ports n slots body.now }
 {
     if trace_parts::complete(n, slots, body) {
-        if long_check::long_intact(body) {
-            let read = trace_parts::read_fields(n, body);
-            if read.number == 0 {
-                return Fate::KEPT;
-            }
-            return Fate::FORM;
+        if intact::<ByTables>(body) {
+            return match trace_parts::read_fields(n, body) {
+                Ok(_) => Fate::Kept,
+                Err(_) => Fate::Form,
+            };
         }
-        return Fate::CHECK;
+        return Fate::Check;
     }
-    Fate::SHORT
+    Fate::Short
 }

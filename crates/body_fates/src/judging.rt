@@ -8,81 +8,80 @@ use crate::body::{Fate, body_fate};
 use trace_parts::Layout;
 
 // How many bodies were judged, and the fate of each; how many of them are kept, and the first slots and slot counts of these.
+// No heap, so the tables are of fixed length with their counts beside them; and two tables, since C gives the writer two.
 #[derive(Clone, Copy)]
 pub struct Judged {
     pub bodies: usize,
-    pub fates: [u8; Layout::BODIES],
+    pub fates: [Fate; Layout::BODIES],
     pub kept: usize,
     pub firsts: [u32; Layout::BODIES],
     pub slots: [u16; Layout::BODIES],
 }
 
 impl Judged {
+    #[tactic(auto, unfolding(crate::specs::Judged::none_judged))]
     pub fn none() -> Judged
         ensures { result ≡ none_judged }
     {
         Judged {
             bodies: 0,
-            fates: [0; Layout::BODIES],
+            fates: [Fate::Kept; Layout::BODIES],
             kept: 0,
             firsts: [0; Layout::BODIES],
             slots: [0; Layout::BODIES],
         }
     }
-}
 
-// As many as a trace can have.
-fn is_full(judged: Judged) -> bool
-    ensures { result ≡ is_full judged }
-{
-    (Layout::BODIES <= judged.bodies) | (Layout::BODIES <= judged.kept)
-}
-
-// With one fate more.
-fn noted(fate: u8, judged: Judged) -> Judged
-    requires { judged.bodies < most_bodies }
-    ensures { result ≡ noted fate judged }
-{
-    let at = judged.bodies;
-    let mut next = judged;
-    next.fates[at] = fate;
-    next.bodies = at + 1;
-    next
-}
-
-// With one entry more.
-fn entered(first: u32, slots: u16, judged: Judged) -> Judged
-    requires { judged.kept < most_bodies }
-    ensures { result ≡ entered first slots judged }
-{
-    let at = judged.kept;
-    let mut next = judged;
-    next.firsts[at] = first;
-    next.slots[at] = slots;
-    next.kept = at + 1;
-    next
-}
-
-// One body more: the first slot and slot count of its entry, and its bytes as far as the file has them.
-pub fn judge(n: usize, first: u32, slots: u16, body: &[u8], judged: Judged) -> Judged
-    ensures { result ≡ judge most_ports n first slots body.now judged }
-{
-    if is_full(judged) {
-        return judged;
+    // As many as a trace can have.
+    #[tactic(auto, unfolding(crate::specs::Judged::is_full))]
+    fn is_full(&self) -> bool
+        ensures { result ≡ is_full self.now }
+    {
+        (Layout::BODIES <= self.bodies) | (Layout::BODIES <= self.kept)
     }
-    let fate = body_fate(n, slots, body);
-    if fate == Fate::KEPT {
-        return entered(first, slots, noted(fate, judged));
-    }
-    noted(fate, judged)
-}
 
-// The fate of body k; short where it was not judged.
-pub fn fate_of(judged: Judged, k: usize) -> u8
-    ensures { result ≡ fate_of judged k }
-{
-    if (k < judged.bodies) & (k < Layout::BODIES) {
-        return judged.fates[k];
+    // One fate more.
+    #[tactic(auto, unfolding(crate::specs::Judged::noted))]
+    fn note(&mut self, fate: Fate)
+        requires { self.old.bodies < most_bodies }
+        ensures { self.new ≡ noted fate self.old }
+    {
+        self.fates[self.bodies] = fate;
+        self.bodies = self.bodies + 1;
     }
-    Fate::SHORT
+
+    // One entry more.
+    #[tactic(auto, unfolding(crate::specs::Judged::entered))]
+    fn enter(&mut self, first: u32, slots: u16)
+        requires { self.old.kept < most_bodies }
+        ensures { self.new ≡ entered first slots self.old }
+    {
+        self.firsts[self.kept] = first;
+        self.slots[self.kept] = slots;
+        self.kept = self.kept + 1;
+    }
+
+    // One body more: the first slot and slot count of its entry, and its bytes as far as the file has them.
+    pub fn judge(&mut self, n: usize, first: u32, slots: u16, body: &[u8])
+        ensures { self.new ≡ judge most_ports n first slots body.now self.old }
+    {
+        if self.is_full() {
+            return;
+        }
+        let fate = body_fate(n, slots, body);
+        self.note(fate);
+        if fate == Fate::Kept {
+            self.enter(first, slots);
+        }
+    }
+
+    // The fate of body k; short where it was not judged.
+    pub fn fate_of(&self, k: usize) -> Fate
+        ensures { result ≡ fate_of self.now k }
+    {
+        if (k < self.bodies) & (k < Layout::BODIES) {
+            return self.fates[k];
+        }
+        Fate::Short
+    }
 }

@@ -5,4 +5,4 @@ mod body;
 mod judging;
 
 pub use body::Fate;
-pub use judging::{Judged, fate_of, judge};
+pub use judging::Judged;

@@ -1,54 +1,47 @@
 // The header of a capture.
 ghost use Rattle.std.specs.Prelude.{◌≡◌, ◌≤◌, length};
-ghost use Rattle.captures.specs.Capture.{header_len, is_low, header_sound, header_read};
+ghost use Rattle.refusals.specs.Numbers.{answer_of};
+ghost use Rattle.captures.specs.Capture.{header_len, magic_order, header_read};
+ghost use Rattle.captures.specs.declared.number.ByteOrder.TheVariants.{HighFirst};
 
-use crate::number::long_in;
+use crate::number::ByteOrder;
+use refusals::Refusal;
 
-// Whether the file's numbers have their low byte first, or number 18.
-#[derive(Clone, Copy)]
-pub struct HeaderRead {
-    pub number: u8,
-    pub low: bool,
-}
-
-impl HeaderRead {
-    // The bytes of a header.
-    pub const LEN: usize = 24;
+impl ByteOrder {
+    // The bytes of the header that tells the order.
+    pub const HEADER: usize = 24;
 }
 
 const MAGIC: u32 = 0xA1B2C3D4;
 
 const LINK_TYPE: u32 = 147;
 
-fn is_low(s: &[u8]) -> bool
+// The order in which the magic number stands there.
+fn magic_order(s: &[u8]) -> Option<ByteOrder>
     requires { header_len ≤ length s.now }
-    ensures { result ≡ is_low s.now }
+    ensures { result ≡ magic_order s.now }
 {
-    long_in(true, 0, s) == MAGIC
+    if ByteOrder::LowFirst.long_in(0, s) == MAGIC {
+        return Some(ByteOrder::LowFirst);
+    }
+    if ByteOrder::HighFirst.long_in(0, s) == MAGIC {
+        return Some(ByteOrder::HighFirst);
+    }
+    None
 }
 
-fn header_sound(s: &[u8]) -> bool
-    ensures { result ≡ header_sound s.now }
+// Of a file that starts so: the byte order of its numbers.
+pub fn read_header(start: &[u8]) -> Result<ByteOrder, Refusal>
+    ensures { answer_of HighFirst result ≡ header_read start.now }
 {
-    if s.len() < HeaderRead::LEN {
-        return false;
+    if start.len() < ByteOrder::HEADER {
+        return Err(Refusal::BadCapture);
     }
-    let low = is_low(s);
-    (low | (long_in(false, 0, s) == MAGIC)) & (long_in(low, 20, s) % 268435456 == LINK_TYPE)
-}
-
-// Of a file that starts so.
-pub fn read_header(start: &[u8]) -> HeaderRead
-    ensures { result ≡ header_read start.now }
-{
-    if header_sound(start) {
-        return HeaderRead {
-            number: 0,
-            low: is_low(start),
-        };
+    let Some(order) = magic_order(start) else {
+        return Err(Refusal::BadCapture);
+    };
+    if order.long_in(20, start) % 268435456 == LINK_TYPE {
+        return Ok(order);
     }
-    HeaderRead {
-        number: 18,
-        low: false,
-    }
+    Err(Refusal::BadCapture)
 }

@@ -5,5 +5,6 @@ mod header;
 mod number;
 mod packet;
 
-pub use header::{HeaderRead, read_header};
+pub use header::read_header;
+pub use number::ByteOrder;
 pub use packet::{Packet, packet_len, read_packet, record_len};

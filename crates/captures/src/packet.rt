@@ -1,8 +1,8 @@
 // The packet in a record of a capture.
 ghost use Rattle.std.specs.Prelude.{◌≡◌, ◌≤◌};
-ghost use Rattle.captures.specs.Capture.{packet_len, record_len, packet_in};
+ghost use Rattle.captures.specs.Capture.{packet_len, record_len, low_first, packet_in};
 
-use crate::number::long_in;
+use crate::number::ByteOrder;
 use frames::Config;
 
 // The captured length, the slot and the host.
@@ -34,9 +34,9 @@ pub fn record_len(n: usize) -> usize
     Packet::SLOT + packet_len(n) as usize
 }
 
-// Zeros where the bytes are too few.
-pub fn read_packet(low: bool, bytes: &[u8]) -> Packet
-    ensures { result ≡ packet_in low bytes.now }
+// Zeros, and no refusal, where the bytes are too few, since it can't fail.
+pub fn read_packet(order: ByteOrder, bytes: &[u8]) -> Packet
+    ensures { result ≡ packet_in (low_first order) bytes.now }
 {
     if bytes.len() < Packet::FRAME {
         return Packet {
@@ -46,8 +46,8 @@ pub fn read_packet(low: bool, bytes: &[u8]) -> Packet
         };
     }
     Packet {
-        captured: long_in(low, 8, bytes),
-        slot: long_in(false, Packet::SLOT, bytes),
+        captured: order.long_in(8, bytes),
+        slot: ByteOrder::HighFirst.long_in(Packet::SLOT, bytes),
         host: bytes[Packet::HOST],
     }
 }

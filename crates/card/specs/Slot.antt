@@ -2,7 +2,7 @@
 use Rattle.std.specs.Prelude.{◌≡◌, List, ℕ}
 use Rattle.ports.specs.declared.state.State.{State}
 use Rattle.ports.specs.declared.state.Mode.{Mode}
-use Rattle.ports.specs.declared.answer.Answer.{Answer}
+use Rattle.ports.specs.Answer.{Answer}
 use Rattle.shelf.specs.Step.{stepped, output}
 
 pub record Lent (m : ℕ) (st : State) (slot : ℕ) (mode : Mode) (block : List ℕ) (link : ℕ) (out : List ℕ) (answer : Answer) (next : State) (after : List ℕ) : Type 0 where

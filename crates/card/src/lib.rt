@@ -2,9 +2,11 @@
 #![tactic(auto)]
 
 ghost use Rattle.frames.specs.Part.{most_ports};
+ghost use Rattle.ports.specs.Served.{slot_answer};
 ghost use Rattle.card.specs.Slot.{Lent};
 
-use ports::{Answer, Mode, Set, State};
+use ports::{Matched, Mode, Set, State};
+use refusals::Refusal;
 
 pub fn slot(
     state: &mut State,
@@ -13,10 +15,10 @@ pub fn slot(
     block: &[u8],
     link: Set,
     out: &mut [u8],
-) -> Answer
-    ensures { Lent most_ports state.old slot mode block.now link out.old result state.new out.new }
+) -> Result<Matched, Refusal>
+    ensures { Lent most_ports state.old slot mode block.now link out.old (slot_answer most_ports result) state.new out.new }
 {
-    let stepped = shelf::step(*state, slot, mode, block, link, out);
-    *state = stepped.state;
-    stepped.answer
+    let served = shelf::step(*state, slot, mode, block, link, out)?;
+    *state = served.state;
+    Ok(served.matched)
 }

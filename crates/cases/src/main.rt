@@ -1,46 +1,42 @@
 // Cases A to I of document 01.
 #![tactic(auto)]
 
-use ports::{Mode, State};
+use ports::{Mode, State, Table};
 use shown::{SLOT, at, rows};
 use std::io::Result;
 
-// The rows of req and pre are a hexadecimal digit each.
-fn show(rt: &impl Print, label: u8, state: State, mode: Mode, req: u16, pre: u16) -> Result<()> {
-    let r = lcf::slot_on_tables(state, SLOT, mode, rows(req), rows(pre));
-    let answer = r.answer;
-    let sets = answer.sets;
+// A slot that is declined connects nothing.
+fn show(
+    rt: &impl Print,
+    label: u8,
+    state: State,
+    mode: Mode,
+    req: Table,
+    pre: Table,
+) -> Result<()> {
+    let sets = match lcf::slot_on_tables(state, SLOT, mode, req, pre) {
+        Ok(served) => served.matched.sets,
+        Err(_) => State::empty_table(),
+    };
     shown::letter(rt, label)?;
     shown::sets(rt, state.ports, sets)
 }
 
-// Case G, whose host 1 clears ben bit 0.
-fn show_voted(rt: &impl Print, label: u8, state: State, req: u16, ben: u16) -> Result<()> {
-    let counted = hearing::counted(
-        state.ports,
-        state.owners,
-        0b11,
-        rows(ben),
-        rows(req),
-        State::empty_table(),
-    );
-    let req = counted.req;
-    let pre = counted.pre;
-    let r = lcf::slot_on_tables(state, SLOT, Mode::Central, req, pre);
-    let answer = r.answer;
-    let sets = answer.sets;
-    shown::letter(rt, label)?;
-    shown::sets(rt, state.ports, sets)
-}
-
+// The rows of req, pre and ben are a hexadecimal digit each. In case G both hosts are heard, and host 1 clears ben bit 0.
 fn main(rt: HostRuntime) -> Result<()> {
-    show(&rt, b'A', at(1, 0, 0), Mode::Central, 0x1, 0)?;
-    show(&rt, b'B', at(3, 0, 0), Mode::Central, 0x613, 0)?;
-    show(&rt, b'C', at(3, 2, 0), Mode::Central, 0x613, 0)?;
-    show(&rt, b'D', at(3, 1, 2), Mode::Central, 0x605, 0)?;
-    show(&rt, b'E', at(3, 0, 0), Mode::Central, 0x030, 0)?;
-    show(&rt, b'F', at(4, 3, 1), Mode::Central, 0x0039, 0xa008)?;
-    show_voted(&rt, b'G', at(2, 0, 0), 0x11, 0x23)?;
-    show(&rt, b'H', at(3, 0, 0), Mode::Distributed(1), 0x613, 0)?;
-    show(&rt, b'I', at(3, 2, 0), Mode::Distributed(2), 0x473, 0)
+    let rt = &rt;
+    let none = State::empty_table();
+    show(rt, b'A', at(1, 0, 0), Mode::Central, rows(0x1), none)?;
+    show(rt, b'B', at(3, 0, 0), Mode::Central, rows(0x613), none)?;
+    show(rt, b'C', at(3, 2, 0), Mode::Central, rows(0x613), none)?;
+    show(rt, b'D', at(3, 1, 2), Mode::Central, rows(0x605), none)?;
+    show(rt, b'E', at(3, 0, 0), Mode::Central, rows(0x030), none)?;
+    let claims = rows(0xa008);
+    show(rt, b'F', at(4, 3, 1), Mode::Central, rows(0x0039), claims)?;
+    let voted = hearing::counted(2, 0, 0b11, rows(0x23), rows(0x11), none);
+    show(rt, b'G', at(2, 0, 0), Mode::Central, voted.req, voted.pre)?;
+    let one_round = Mode::Distributed(1);
+    show(rt, b'H', at(3, 0, 0), one_round, rows(0x613), none)?;
+    let two_rounds = Mode::Distributed(2);
+    show(rt, b'I', at(3, 2, 0), two_rounds, rows(0x473), none)
 }

@@ -46,7 +46,7 @@ unfolding charted
 one_call m s c r =
     let f = feed_of m s.state c in
     arms (SomeHistory m) (is_served m s c) _ _
-    (λ e. feed_cases m s.ledger f.ports f.asked f.connected (λ a. SomeHistory m a.ledger)
+    (λ e. feed_cases m s.ledger f.ports f.asked f.connected (λ a. SomeHistory m a.fields)
     (λ z. record { history = f ∷ r.history; shows = next_shows m f r.history s.ledger r.shows }) (λ ne. r))
     (λ e. r)
 

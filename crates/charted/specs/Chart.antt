@@ -21,7 +21,7 @@ started m st = record { state = st; ledger = empty m }
 
 -- what a slot call feeds: n, the sets asked of its block, and the sets connected of its answer
 abbrev pub feed_of : ℕ → State → SlotCall → Feed
-feed_of m st c = record { ports = st.ports; asked = (sets_asked m st.ports st.owners c.block).sets; connected = sets m st c }
+feed_of m st c = record { ports = st.ports; asked = (sets_asked m st.ports st.owners c.block).fields; connected = sets m st c }
 
 -- a slot call, and the feed after it if it is served
 abbrev pub is_served : ℕ → Chart → SlotCall → Bool
@@ -30,7 +30,7 @@ is_served m s c = served m s.state c
 unfoldable pub charted : ℕ → Chart → SlotCall → Chart
 charted m s c = record {
   state = next m s.state c;
-  ledger = cond (is_served m s c) (fed_with m s.ledger (feed_of m s.state c)).ledger s.ledger;
+  ledger = cond (is_served m s c) (fed_with m s.ledger (feed_of m s.state c)).fields s.ledger;
 }
 
 -- what the chart shows of a pair

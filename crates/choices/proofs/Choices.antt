@@ -23,10 +23,6 @@ holds_left : (a b : Bool) → true ≡ (a && b) → a ≡ true
 holds_left true b e = refl
 holds_left false b e = absurd (false≢true (sym e))
 
--- x modulo n, of an x from n up to below twice n
-pub wraps : (x n : ℕ) → n ≤ x → x < n + n → x - n ≡ x % n
-wraps x n h l = sym (mod-eq_of_lt (omega arith)) ∙ sym (add-mod_right (x - n) n) ∙ ap (λ z. z % n) (omega arith)
-
 -- taking y away first
 pub turns : (n a x y : ℕ) {b r : ℕ} → y < n → b ≡ (a + n - y) % n → r ≡ (b + x) % n → r ≡ turned n a x y
 turns n a x y h p q = q ∙ ap (λ z. (z + x) % n) p ∙ mod-add-mod (a + n - y) n x ∙ ap (λ z. z % n) (omega arith)

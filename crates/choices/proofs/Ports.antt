@@ -1,42 +1,28 @@
 -- What the calls answer where the numbers are of ports, and what they ignore where not, over any greatest port count.
 use mathlib.Core.Path.{◌≡◌, refl, sym, ap, ◌∙◌}
 use mathlib.Core.Bool.{Bool, true, false, not, ◌&&◌, ◌||◌, cond}
-use mathlib.Core.List.{List, [], ◌∷◌}
+use mathlib.Core.List.{List, [], ◌∷◌, map}
 use Prim.Native.Nat.{ℕ, zero, suc, min, ◌+◌, ◌-◌, ◌%◌, ◌≤◌, ◌<◌}
-use native.Mathlib.Nat.{mod-lt, mod-eq_of_lt}
+use native.Mathlib.Nat.{mod-lt, mod-eq_of_lt, mod-add-mod}
 use native.Mathlib.Decide.{dec_lt}
 use native.Mathlib.Omega.{arith}
-use lib.Dec.{eqb, ltb, leb}
+use lib.Dec.{eqb, ltb}
 use lib.ListN.{length, get_or}
-use borrow.Author.Tests.{ltb-true, leb-true, lt-ltb, le-leb}
+use borrow.Author.Tests.{lt-ltb, le-leb}
 use Rattle.laws.specs.Steps.{steps}
-use Rattle.laws.proofs.Tests.{both, arms}
-use Rattle.laws.specs.Sets.{has, asks, with, column}
+use Rattle.laws.proofs.Tests.{arms}
+use lib.Bits.{bit_and}
+use Rattle.laws.specs.Sets.{has, asks, with, without, column}
+use Rattle.laws.proofs.Words.{minus_one}
 use Rattle.laws.proofs.Loops.{stays, done}
 use Rattle.laws.proofs.Members.{has_none}
 use Rattle.choices.specs.Join.{join}
 use Rattle.choices.specs.Live.{any_live}
 use Rattle.choices.specs.declared.work.Work.{Work}
 use Rattle.choices.specs.Choice.{place, turned, chosen, choice}
-use Rattle.choices.specs.Within.{is_port, choice_within, place_within, turned_within}
-
--- a test that was passed
-
-pub two_ports : (m n a : ℕ) → is_port m n a ≡ true → (n ≤ m) × (a < n)
-two_ports m n a e = let (p, q) = both (leb n m) (ltb a n) e in (leb-true n m p, ltb-true a n q)
-
-pub three_ports : (m n a k : ℕ) → (is_port m n a && ltb k n) ≡ true → (n ≤ m) × (a < n) × (k < n)
-three_ports m n a k e = let (p, q) = both (is_port m n a) (ltb k n) e in let (h, l) = two_ports m n a p in (h, l, ltb-true k n q)
-
-pub four_ports : (m n a x y : ℕ) → (is_port m n a && (ltb x n && ltb y n)) ≡ true → (n ≤ m) × (a < n) × (x < n) × (y < n)
-four_ports m n a x y e =
-    let (p, q) = both (is_port m n a) (ltb x n && ltb y n) e in
-    let (h, l) = two_ports m n a p in
-    let (u, v) = both (ltb x n) (ltb y n) q in
-    (h, l, ltb-true x n u, ltb-true y n v)
+use Rattle.choices.specs.Within.{is_port, choice_within, turned_within}
 
 -- the choice is one of the ports
-
 pub choice_below : (p : ℕ → Bool) (f : ℕ → ℕ) (n a : ℕ) → a < n → choice p f n a < n
 unfolding choice steps
 choice_below p f n a h = go n
@@ -52,9 +38,12 @@ pub is_choice : (m : ℕ) (p : ℕ → Bool) (f : ℕ → ℕ) (n a : ℕ) {r : 
 unfolding choice_within
 is_choice m p f n a e h l = let q = rw (is_port_lem m n a h l) at e in (q, rw q (choice_below p f n a l))
 
-pub is_place : (m n a k : ℕ) {r : ℕ} → r ≡ place_within m n a k → n ≤ m → a < n → k < n → (r ≡ place n a k) × (r < n)
-unfolding place_within
-is_place m n a k e h l g = let q = rw (is_port_lem m n a h l, lt-ltb k n g) at e in (q, rw q (mod-lt (a + k) (omega arith)))
+-- whole rounds make no difference
+pub goes_round : (n a k : ℕ) {turn r : ℕ} → r ≡ place n a turn → turn ≡ k % n → r ≡ place n a k
+goes_round n a k e t =
+    let s : a + k % n ≡ k % n + a = omega arith in
+    let u : k + a ≡ a + k = omega arith in
+    e ∙ rw (t, s, mod-add-mod, u)
 
 is_turned : (m n a x y : ℕ) {r : ℕ} → r ≡ turned_within m n a x y → n ≤ m → a < n → x < n → y < n → (r ≡ turned n a x y) × (r < n)
 unfolding turned_within
@@ -101,3 +90,7 @@ module _ (rows : List ℕ) (m n k : ℕ) (long : length rows ≡ m) where
 -- a member that is a port is taken as it is
 pub gathers : (m row t s i : ℕ) {r : ℕ} → i < m → r ≡ cond (has row t) (with s (i % m)) s → r ≡ cond (has row t) (with s i) s
 gathers m row t s i h e = e ∙ ap (λ z. cond (has row t) (with s z) s) (mod-eq_of_lt h)
+
+-- the columns of one that is gone
+pub one_column : (k : ℕ) (rows : List ℕ) → map (λ row. row - bit_and row (with 0 k)) rows ≡ map (λ row. without row k) rows
+one_column k rows = ap (λ (f : ℕ → ℕ). map f rows) (λ i row. minus_one row k i)

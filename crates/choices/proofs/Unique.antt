@@ -6,8 +6,10 @@ use Prim.Native.Nat.{ℕ}
 use Rattle.laws.proofs.Unique.{the_result}
 use Rattle.choices.specs.declared.work.Work.{Work}
 use Rattle.choices.proofs.choice.choose.Reads as choose
-use Rattle.choices.proofs.choice.place_of.Reads as place_of
-use Rattle.choices.proofs.choice.turned.Reads as turned
+use Rattle.choices.proofs.pair.pair_at.Reads as pair-at
+use Rattle.choices.proofs.rotation.place_of.Reads as place_of
+use Rattle.choices.proofs.rotation.turned.Reads as turned
+use Rattle.choices.proofs.join.clear_columns.Reads as clear-columns
 use Rattle.choices.proofs.join.join_pair.Reads as join-pair
 use Rattle.choices.proofs.sets.any_live.Reads as any-live
 use Rattle.choices.proofs.sets.column.Reads as column
@@ -20,8 +22,15 @@ choose_once κs a r s x y p q = the_result p q
 pub place-of-once : (κs a : _) (r s : ℕ) (x y : _) → place_of.Learnt κs a r x → place_of.Learnt κs a s y → r ≡ s
 place-of-once κs a r s x y p q = the_result p q
 
+pub pair_at_once : (κs a r s x y : _) → pair-at.Learnt κs a r x → pair-at.Learnt κs a s y → r ≡ s
+pair_at_once κs a r s x y p q =
+    λ i. record { initiator = record { 0 = the_result p.0.0 q.0.0 i }; target = record { 0 = the_result p.1.0 q.1.0 i } }
+
 pub turned-once : (κs a : _) (r s : ℕ) (x y : _) → turned.Learnt κs a r x → turned.Learnt κs a s y → r ≡ s
 turned-once κs a r s x y p q = the_result p q
+
+pub clear_columns-once : (κs a : _) (r s : List ℕ) (x y : _) → clear-columns.Learnt κs a r x → clear-columns.Learnt κs a s y → r ≡ s
+clear_columns-once κs a r s x y p q = the_result p q
 
 pub join-pair-once : (κs a : _) (r s : Work) (x y : _) → join-pair.Learnt κs a r x → join-pair.Learnt κs a s y → r ≡ s
 join-pair-once κs a r s x y p q = the_result p q

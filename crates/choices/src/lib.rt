@@ -3,10 +3,14 @@
 
 mod choice;
 mod join;
+mod pair;
+mod rotation;
 mod sets;
 mod work;
 
-pub use choice::{choose, place_of, turned};
-pub use join::join_pair;
-pub use sets::{Counts, any_live, column, full, gather, sizes};
+pub use choice::choose;
+pub use join::{clear_columns, join_pair};
+pub use pair::{Pair, pair_at};
+pub use rotation::{place_of, turned};
+pub use sets::{Counts, any_live, column, gather, sizes};
 pub use work::{Run, Work};

@@ -1,7 +1,7 @@
 // What a slot works on.
 use ports::Table;
 
-// The live requests and the targets held, a row for each initiator.
+// The live requests and the targets held, a row for each initiator. Two tables, for the columns read the one without the other.
 #[derive(Clone, Copy)]
 pub struct Work {
     pub live: Table,

@@ -5,13 +5,13 @@ use mathlib.Core.List.{List}
 use Prim.Native.Nat.{ℕ}
 use lib.ListN.{length}
 use borrow.Author.Tests.{eq-eqb, ne_eqb}
+use Rattle.refusals.specs.Numbers.{Answer}
 use Rattle.lent.proofs.Fills.{unfit, declines, fills}
 use Rattle.ports.specs.declared.state.State.{State}
 use Rattle.table_bytes.specs.State.{state_len, state_in}
 use Rattle.table_bytes.specs.Table.{table_len, table_put}
 use Rattle.table_bytes.proofs.Fits.{table_filled, state_read}
 use Rattle.shelf.specs.Asked.{sets_asked}
-use Rattle.shelf.specs.declared.asked.Asked.{Asked}
 use Rattle.collector_calls.specs.Ledger.{asked_fits, asked_of, asked_number, asked_table}
 
 module _ (m : ℕ) (state block table : List ℕ) where
@@ -27,7 +27,7 @@ module _ (m : ℕ) (state block table : List ℕ) where
   unfolding asked_fits
   wrong_table nine other = unfit _ _ _ _ (rw (eq-eqb _ _ nine, ne_eqb _ _ other))
 
-  module _ (nine : length state ≡ state_len) (long : length table ≡ table_len m) (st : State) (is-st : st ≡ state_in state) (asked : Asked)
+  module _ (nine : length state ≡ state_len) (long : length table ≡ table_len m) (st : State) (is-st : st ≡ state_in state) (asked : Answer (List ℕ))
       (is : asked ≡ sets_asked m st.ports st.owners block) where
     fit : asked_fits m state block table ≡ true
     unfolding asked_fits
@@ -40,5 +40,5 @@ module _ (m : ℕ) (state block table : List ℕ) where
     pub refused : (asked.number ≡ 0 → ⊥) → Ends asked.number table
     refused some = rw (← is_asked) (declines _ _ _ _ fit some)
 
-    pub found : asked.number ≡ 0 → (left : List ℕ) → (left ≡ table_put m asked.sets table) × (length asked.sets ≡ m) → Ends 0 left
-    found none left (put, rows) = rw (← is_asked) (fills _ _ _ _ fit none left (put ∙ table_filled m table long asked.sets rows))
+    pub found : asked.number ≡ 0 → (left : List ℕ) → (left ≡ table_put m asked.fields table) × (length asked.fields ≡ m) → Ends 0 left
+    found none left (put, rows) = rw (← is_asked) (fills _ _ _ _ fit none left (put ∙ table_filled m table long asked.fields rows))

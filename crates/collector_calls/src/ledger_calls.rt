@@ -1,10 +1,13 @@
 // The ledger's calls of the C form.
-ghost use Rattle.std.specs.Prelude.{◌≡◌, length};
+ghost use Rattle.std.specs.Prelude.{◌≡◌};
 ghost use Rattle.frames.specs.Part.{most_ports};
-ghost use Rattle.collector_calls.specs.Ledger.{figures_len, figure_words, asked_number, asked_table, feed_number, feed_words, figures_number, figures_after};
+ghost use Rattle.refusals.specs.Numbers.{number_of};
+ghost use Rattle.collector_calls.specs.Ledger.{figure_words, asked_number, asked_table, feed_number, feed_words, figures_number, figures_after};
 
 use ledger::Figures;
+use lent::fill;
 use ports::{Initiator, Target};
+use refusals::{Refusal, number_of};
 use table_bytes::{STATE_LEN, TABLE_LEN, put_table, state_in, table_in};
 
 pub fn bellacush_asked(state: &[u8], block: &[u8], table: &mut [u8]) -> u32
@@ -17,55 +20,41 @@ pub fn bellacush_asked(state: &[u8], block: &[u8], table: &mut [u8]) -> u32
         return 8;
     }
     let read = state_in(state);
-    let asked = shelf::sets_asked(read.ports, read.owners, block);
-    let number = asked.number;
-    if number != 0 {
-        return number as u32;
+    match shelf::sets_asked(read.ports, read.owners, block) {
+        Ok(sets) => {
+            put_table(sets, table);
+            0
+        }
+        Err(why) => why.number() as u32,
     }
-    let sets = asked.sets;
-    put_table(sets, table);
-    0
+}
+
+fn feed(ledger: &mut [u32], n: u32, asked: &[u8], connected: &[u8]) -> Result<(), Refusal>
+    ensures { (number_of result ≡ feed_number most_ports ledger.old n asked.now connected.now) × (ledger.new ≡ feed_words most_ports ledger.old n asked.now connected.now) }
+{
+    if (asked.len() != TABLE_LEN) | (connected.len() != TABLE_LEN) {
+        return Err(Refusal::BadLen);
+    }
+    ledger::feed_lent(ledger, n as usize, table_in(asked), table_in(connected))
 }
 
 pub fn bellacush_feed(ledger: &mut [u32], n: u32, asked: &[u8], connected: &[u8]) -> u32
     ensures { (result ≡ feed_number most_ports ledger.old n asked.now connected.now) × (ledger.new ≡ feed_words most_ports ledger.old n asked.now connected.now) }
 {
-    if asked.len() != TABLE_LEN {
-        return 8;
-    }
-    if connected.len() != TABLE_LEN {
-        return 8;
-    }
-    ledger::feed_lent(ledger, n as usize, table_in(asked), table_in(connected)) as u32
+    u32::from(number_of(feed(ledger, n, asked, connected)))
 }
 
-fn put_figures(f: Figures, figures: &mut [u32])
-    requires { length figures.old ≡ figures_len }
-    ensures { figures.new ≡ figure_words f }
+// A pair's figures as words. No From: the type is the ledger's.
+fn in_order(f: Figures) -> [u32; 5]
+    ensures { result ≡ figure_words f }
 {
-    figures[0] = f.asked;
-    figures[1] = f.connected;
-    figures[2] = f.fresh;
-    figures[3] = f.withdrawn;
-    figures[4] = f.isopen;
+    [f.asked, f.connected, f.fresh, f.withdrawn, f.isopen]
 }
 
 pub fn bellacush_figures(ledger: &[u32], initiator: u32, target: u32, figures: &mut [u32]) -> u32
     ensures { (result ≡ figures_number most_ports ledger.now initiator target figures.old) × (figures.new ≡ figures_after most_ports ledger.now initiator target figures.old) }
 {
-    if figures.len() != 5 {
-        return 8;
-    }
-    let shown = ledger::figures_lent(
-        ledger,
-        Initiator(initiator as usize),
-        Target(target as usize),
-    );
-    let number = shown.number;
-    if number != 0 {
-        return number as u32;
-    }
-    let f = shown.figures;
-    put_figures(f, figures);
-    0
+    let i = Initiator(initiator as usize);
+    let told = ledger::figures_lent(ledger, i, Target(target as usize));
+    u32::from(number_of(fill(told.map(in_order), figures)))
 }

@@ -1,4 +1,4 @@
-// The trace calls by their C names.
+// The trace calls by their C names: what C gives goes on, and the number comes back.
 ghost use Rattle.std.specs.Prelude.{◌≡◌};
 ghost use Rattle.frames.specs.Part.{most_ports};
 ghost use Rattle.trace_parts.specs.Contents.{file_head, read_entry};

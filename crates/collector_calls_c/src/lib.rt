@@ -1,4 +1,5 @@
 // The ledger's and the trace's calls, as C calls them: what the collectors' backend links besides.
+// C has a name for each, so each is one call of the crate below.
 #![tactic(auto)]
 
 ghost use Rattle.std.specs.Prelude.{◌≡◌};

@@ -1,6 +1,6 @@
 // A number for each initiator, held in four planes: bit i of a plane is one digit of initiator i's number. And the least of them.
 ghost use Rattle.std.specs.Prelude.{◌≡◌, ◌<◌};
-ghost use Rattle.columns.specs.Planes.{more, less, narrow, least, winner};
+ghost use Rattle.columns.specs.Planes.{digits, more, less, narrow, lowest, winner};
 ghost use Rattle.laws.specs.Sets.{has};
 
 #[derive(Clone, Copy)]
@@ -12,6 +12,7 @@ pub struct Planes {
 }
 
 // One more for each initiator of x, modulo 16.
+#[tactic(auto, unfolding(crate::specs::Planes::more, crate::specs::Planes::plus))]
 pub(crate) fn more(p: Planes, x: u32) -> Planes
     ensures { result ≡ more p x }
 {
@@ -27,6 +28,7 @@ pub(crate) fn more(p: Planes, x: u32) -> Planes
 }
 
 // One less for each initiator of x, modulo 16.
+#[tactic(auto, unfolding(crate::specs::Planes::less, crate::specs::Planes::minus))]
 pub(crate) fn less(p: Planes, x: u32) -> Planes
     ensures { result ≡ less p x }
 {
@@ -52,15 +54,15 @@ fn narrow(m: u32, plane: u32) -> u32
     if x == 0 { m } else { x }
 }
 
-// Of m, the one with the lowest number; among equals, the first in the rotation from a.
-fn least(m: u32, p: Planes, a: usize) -> usize
-    requires { a < 32 }
-    ensures { result ≡ least m p a }
+// Those of m with the lowest number.
+#[tactic(auto, unfolding(crate::specs::Planes::lowest))]
+fn lowest(m: u32, p: Planes) -> u32
+    ensures { result ≡ lowest (digits p) m }
 {
-    let by_number = narrow(narrow(narrow(narrow(m, p.eights), p.fours), p.twos), p.ones);
-    u32::trailing_zeros(narrow(by_number, (1 << a) - 1)) as usize
+    narrow(narrow(narrow(narrow(m, p.eights), p.fours), p.twos), p.ones)
 }
 
+// `words::holds` reads words of 16 bits; a trait for both widths would be longer than both.
 pub(crate) fn holds(s: u32, k: usize) -> bool
     requires { k < 32 }
     ensures { result ≡ has s k }
@@ -68,7 +70,7 @@ pub(crate) fn holds(s: u32, k: usize) -> bool
     (s >> k) % 2 == 1
 }
 
-// Initiator a if it is in m or nobody is.
+// Initiator a if it is in m or nobody is. Else the one with the lowest number; among equals, the first in the rotation from a.
 pub(crate) fn winner(m: u32, p: Planes, a: usize) -> usize
     requires { a < 32 }
     ensures { result ≡ winner m p a }
@@ -76,6 +78,7 @@ pub(crate) fn winner(m: u32, p: Planes, a: usize) -> usize
     if (m == 0) | holds(m, a) {
         a
     } else {
-        least(m, p, a)
+        let by_number = lowest(m, p);
+        narrow(by_number, (1 << a) - 1).trailing_zeros() as usize
     }
 }

@@ -8,13 +8,13 @@ use native.Mathlib.Omega.{arith}
 use lib.Dec.{eqb, ltb}
 use lib.ListN.{length, replicate}
 use borrow.Author.Tests.{ltb-true, ltb-false, lt-ltb, le-ltb, eqb-true, eq-eqb, not-false}
+use Rattle.refusals.specs.Numbers.{Answer}
 use Rattle.laws.specs.Sets.{asks}
 use Rattle.laws.proofs.Tests.{both, every, neither, arms}
 use Rattle.frames.specs.Part.{frame_len}
 use Rattle.frames.specs.Frame.{differs}
 use Rattle.ports.proofs.Seen.{asks-within}
 use Rattle.shelf.specs.Asked.{block_number, sets_asked}
-use Rattle.shelf.specs.declared.asked.Asked.{Asked}
 use Rattle.demands.specs.Block.{Asks}
 use Rattle.demands.proofs.SlotHosts.{Whole, requests_count}
 
@@ -38,19 +38,19 @@ module _ (m n owners : ℕ) (block : List ℕ) where
 
   asked-number : (sets_asked m n owners block).number ≡ block_number m n block
   unfolding sets_asked
-  asked-number = arms (λ (a : Asked). a.number ≡ block_number m n block) (eqb (block_number m n block) 0) _ _ (λ e. sym (eqb-true _ 0 e)) (λ e. refl)
+  asked-number = arms (λ (a : Answer (List ℕ)). a.number ≡ block_number m n block) (eqb (block_number m n block) 0) _ _ (λ e. sym (eqb-true _ 0 e)) (λ e. refl)
 
   -- The call takes whole blocks of 1 to m ports.
   pub asked_of_whole : ((sets_asked m n owners block).number ≡ 0) ↔ Whole m n block
   asked_of_whole = (λ e. number_whole (sym asked-number ∙ e), λ w. asked-number ∙ whole_number w)
 
   -- Of any other it gives no set.
-  pub asked_of_none : ((sets_asked m n owners block).number ≡ 0 → ⊥) → (sets_asked m n owners block).sets ≡ replicate m 0
+  pub asked_of_none : ((sets_asked m n owners block).number ≡ 0 → ⊥) → (sets_asked m n owners block).fields ≡ replicate m 0
   unfolding sets_asked
-  asked_of_none = arms (λ (a : Asked). (a.number ≡ 0 → ⊥) → a.sets ≡ replicate m 0) (eqb (block_number m n block) 0) _ _ (λ e ne. absurd (ne refl)) (λ e ne. refl)
+  asked_of_none = arms (λ (a : Answer (List ℕ)). (a.number ≡ 0 → ⊥) → a.fields ≡ replicate m 0) (eqb (block_number m n block) 0) _ _ (λ e ne. absurd (ne refl)) (λ e ne. refl)
 
   -- The pairs in the sets are those that the block asks.
-  pub asked_exactly : Whole m n block → (i t : ℕ) → (asks (sets_asked m n owners block).sets i t ≡ true) ↔ Asks n owners block i t
+  pub asked_exactly : Whole m n block → (i t : ℕ) → (asks (sets_asked m n owners block).fields i t ≡ true) ↔ Asks n owners block i t
   unfolding sets_asked
   asked_exactly w i t = rw (eq-eqb _ 0 (whole_number w)) (
     λ e. let (ports, a) = both (ltb i n && ltb t n) _ (sym (asks-within n _ i t) ∙ e) in

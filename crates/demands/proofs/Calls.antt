@@ -11,7 +11,7 @@ use borrow.Author.Tests.{eqb-true, eqb-false, ltb-true, ltb-false, leb-true, leb
 use Rattle.laws.proofs.Tests.{arms}
 use Rattle.ports.specs.Due.{behind, wrong_limit, due_number, declined}
 use Rattle.ports.specs.declared.state.State.{State}
-use Rattle.ports.specs.declared.answer.Stepped.{Stepped}
+use Rattle.ports.specs.Answer.{Stepped}
 use Rattle.lcf.specs.Advance.{advance}
 use Rattle.lcf.specs.Slot.{matched, ended, slot_on_tables}
 use Rattle.choices.specs.declared.work.Run.{Run}

@@ -7,7 +7,7 @@ use lib.ListN.{replicate}
 use borrow.Author.Tests.{eq-eqb, eqb-true, eqb-false}
 use Rattle.frames.specs.Part.{most_ports}
 use Rattle.ports.specs.declared.state.State.{State}
-use Rattle.ports.specs.declared.answer.Answer.{Answer}
+use Rattle.ports.specs.Answer.{Answer}
 use Rattle.demands.specs.History.{Below, after, how_many, InEach, InServed, quota, ByValue, Moves, Fair}
 use Rattle.demands.specs.Refusal.{Valid}
 use Rattle.demands.specs.SlotCall as slots

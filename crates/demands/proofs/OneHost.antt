@@ -10,12 +10,12 @@ use borrow.Author.Tests.{eqb-true}
 use Rattle.laws.specs.Sets.{has, tabled}
 use Rattle.laws.proofs.Loops.{same_steps}
 use Rattle.laws.proofs.Tests.{refuted}
-use Rattle.frames.specs.Frame.{Answer as Read}
+use Rattle.refusals.specs.Numbers.{Answer as Read}
 use Rattle.frames.specs.declared.config.Config.{Config}
 use Rattle.ports.specs.Due.{declined}
 use Rattle.ports.specs.declared.state.State.{State}
 use Rattle.ports.specs.declared.state.Mode.{Mode}
-use Rattle.ports.specs.declared.answer.Answer.{Answer}
+use Rattle.ports.specs.Answer.{Answer}
 use Rattle.ports.specs.Owners.{among}
 use Rattle.hearing.specs.Heard.{present, counted}
 use Rattle.lcf.specs.Slot.{slot_on_tables}

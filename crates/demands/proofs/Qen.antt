@@ -7,7 +7,7 @@ use lib.Dec.{eqb}
 use lib.ListN.{set}
 use Rattle.laws.specs.Sets.{with, gathered, tabled}
 use Rattle.laws.proofs.Loops.{same_steps}
-use Rattle.frames.specs.Frame.{Answer}
+use Rattle.refusals.specs.Numbers.{Answer}
 use Rattle.frames.specs.Config.{read_config}
 use Rattle.frames.specs.Part.{frame_len, host_number}
 use Rattle.frames.specs.declared.config.Config.{Config}

@@ -13,7 +13,7 @@ use Rattle.laws.proofs.Steps.{upto}
 use Rattle.ports.specs.declared.state.State.{State}
 use Rattle.ports.specs.declared.state.Mode.{Mode}
 use Rattle.ports.specs.declared.state.Mode.TheVariants.{Central, Distributed, Diagonal}
-use Rattle.ports.specs.declared.answer.Stepped.{Stepped}
+use Rattle.ports.specs.Answer.{Stepped}
 use Rattle.choices.specs.Live.{any_live}
 use Rattle.distributed.specs.Distributed.{round, one_more, distributed}
 use Rattle.planned.specs.Planned.{start}

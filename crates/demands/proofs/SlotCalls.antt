@@ -18,7 +18,7 @@ use Rattle.ports.specs.Due.{behind, wrong_limit, due_number, declined}
 use Rattle.ports.specs.declared.state.State.{State}
 use Rattle.ports.specs.declared.state.Mode.{Mode}
 use Rattle.ports.specs.declared.state.Mode.TheVariants.{Central, Distributed, Diagonal}
-use Rattle.ports.specs.declared.answer.Stepped.{Stepped}
+use Rattle.ports.specs.Answer.{Stepped}
 use Rattle.hearing.specs.Heard.{counted}
 use Rattle.lcf.specs.Slot.{matched, ended, slot_on_tables}
 use Rattle.choices.specs.declared.work.Run.{Run}

@@ -12,7 +12,7 @@ use Rattle.laws.specs.Sets.{has, asks, tabled}
 use Rattle.laws.proofs.Tests.{both, every, refuted}
 use Rattle.laws.proofs.Members.{gathered-has, has-gathered}
 use Rattle.laws.proofs.Rows.{row-tabled}
-use Rattle.frames.specs.Frame.{Answer}
+use Rattle.refusals.specs.Numbers.{Answer}
 use Rattle.frames.specs.Config.{read_config}
 use Rattle.frames.specs.Part.{frame_len, host_number}
 use Rattle.frames.specs.declared.config.Config.{Config}

@@ -7,7 +7,7 @@ use lib.ListN.{length}
 use Rattle.frames.specs.Part.{frame_len, told_len}
 use Rattle.ports.specs.Due.{behind}
 use Rattle.ports.specs.declared.state.State.{State}
-use Rattle.ports.specs.declared.answer.Stepped.{Stepped}
+use Rattle.ports.specs.Answer.{Stepped}
 use Rattle.lcf.specs.Advance.{advance}
 use Rattle.demands.specs.Refusal.{InOrder}
 use Rattle.demands.specs.SlotCall.{SlotCall, next, number, on_tables}

@@ -2,7 +2,7 @@
 use Rattle.std.specs.Prelude.{◌≡◌, true, false, List, ℕ, ◌*◌, ◌<◌, length}
 use Rattle.laws.specs.Parts.{part}
 use Rattle.laws.specs.Sets.{has}
-use Rattle.frames.specs.Frame.{Answer}
+use Rattle.refusals.specs.Numbers.{Answer}
 use Rattle.frames.specs.Config.{read_config}
 use Rattle.frames.specs.Part.{frame_len}
 use Rattle.frames.specs.declared.config.Config.{Config}

@@ -2,7 +2,7 @@
 use Rattle.std.specs.Prelude.{◌≡◌, ◌⊎◌, Bool, true, ◌&&◌, List, ℕ, ◌^◌, ◌<◌, eqb, replicate}
 use Rattle.laws.specs.Sets.{asks}
 use Rattle.ports.specs.declared.state.State.{State}
-use Rattle.ports.specs.declared.answer.Answer.{Answer}
+use Rattle.ports.specs.Answer.{Answer}
 use Rattle.lcf.specs.Advance.{advance}
 use Rattle.card.specs.Slot.{Lent}
 use Rattle.demands.specs.SlotCall.{SlotCall}

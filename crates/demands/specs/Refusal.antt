@@ -1,7 +1,7 @@
 -- What a declined call leaves, and when numbers 1 and 2 do not apply.
 use Rattle.std.specs.Prelude.{◌≡◌, ℕ, ◌^◌, ◌≤◌, ◌<◌, replicate}
 use Rattle.ports.specs.declared.state.State.{State}
-use Rattle.ports.specs.declared.answer.Stepped.{Stepped}
+use Rattle.ports.specs.Answer.{Stepped}
 use Rattle.demands.specs.History.{Below}
 
 -- the state is in order on shelves of at most m ports: 1 to m ports, and offsets below them

@@ -2,7 +2,7 @@
 use Rattle.std.specs.Prelude.{Bool, List, ℕ, eqb}
 use Rattle.ports.specs.declared.state.State.{State}
 use Rattle.ports.specs.declared.state.Mode.{Mode}
-use Rattle.ports.specs.declared.answer.Stepped.{Stepped}
+use Rattle.ports.specs.Answer.{Stepped}
 use Rattle.shelf.specs.Hosts.{hosts_of}
 use Rattle.shelf.specs.Step.{stepped, output}
 use Rattle.demands.specs.Call.{Call, counting}

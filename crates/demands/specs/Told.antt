@@ -1,7 +1,7 @@
 -- What documents 01 and 02 say of the grant frame of host i, of n hosts, in the output of a served slot.
 use Rattle.std.specs.Prelude.{◌≡◌, ◌↔◌, false, not, List, ℕ, eqb, get_or}
 use Rattle.laws.specs.Sets.{has}
-use Rattle.frames.specs.Frame.{Answer}
+use Rattle.refusals.specs.Numbers.{Answer}
 use Rattle.frames.specs.declared.held.Held.{Held}
 use Rattle.demands.specs.Block.{Heard}
 

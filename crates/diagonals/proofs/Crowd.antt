@@ -8,12 +8,12 @@ use lib.Pow.{pow_mono}
 use Rattle.laws.specs.Sets.{has, gathered}
 use Rattle.laws.proofs.Members.{has_none, gathered-has, has-gathered}
 use Rattle.laws.proofs.Parts.{length_parts, part_at}
-use Rattle.frames.specs.Frame.{Answer}
+use Rattle.std.specs.Prelude.{Ok}
+use Rattle.refusals.specs.Numbers.{Answer, answer_of}
 use Rattle.frames.specs.Width.{narrow}
 use Rattle.frames.specs.Part.{most_ports, frame_len}
-use Rattle.frames.specs.Config.{config_fields, config_frame, config_answer, read_config}
+use Rattle.frames.specs.Config.{config_fields, config_frame, no_config, read_config}
 use Rattle.frames.specs.declared.config.Config.{Config}
-use Rattle.frames.specs.declared.config.ConfigRead.TheVariants.{Frame}
 use Rattle.frames.proofs.ConfigLaws.{length_config, config_reads}
 use Rattle.ports.proofs.Owners.{no_owners}
 use Rattle.demands.specs.Block.{says, Waits}
@@ -31,7 +31,7 @@ module _ (n : ℕ) (most : n ≤ most_ports) where
   fits (suc (suc (suc zero))) = omega arith
   fits (suc (suc (suc (suc i)))) = omega arith
 
-  crowd_says : (h : ℕ) → h < n → says n (crowd_block n) h ≡ config_answer (Frame (asks_zero n))
+  crowd_says : (h : ℕ) → h < n → says n (crowd_block n) h ≡ answer_of no_config (Ok (asks_zero n))
   crowd_says h h< = ap read_config (part_at (λ h. config_frame (asks_zero n)) (frame_len n) (λ h. length_config (asks_zero n)) n h h<) ∙ config_reads (asks_zero n) fits
 
   -- of a shelf whose ports are all operator 0's

@@ -1,4 +1,5 @@
 // The frame calls, as C calls them: an object of their own, for beside the slot call they would keep a reader from being part of it.
+// C has a name for each, so each is one call of the crate below.
 #![tactic(auto)]
 
 ghost use Rattle.std.specs.Prelude.{◌≡◌};

@@ -1,46 +1,20 @@
 // Runs frame vectors through the public calls, and writes what each answers: the documents' number, then the fields or the bytes.
 #![tactic(auto)]
 
-use frames::{Config, ConfigRead, Grant, GrantRead, Held, HeldRead};
+use frames::{Config, Grant, Held};
+use refusals::{Refusal, number_of};
 use std::io::Result;
 
-fn text(rt: &impl Print, s: &[u8]) -> Result<()> {
-    rt.write_all(s)
-}
-
-fn decimal(rt: &impl Print, n: u64) -> Result<()> {
-    print!(rt; " {n}")
-}
-
-fn wide(b: u8) -> u64 {
-    b as u64
-}
-
 fn hex(rt: &impl Print, s: &[u8]) -> Result<()> {
-    for i in 0..s.len() {
-        print!(rt; "{:02x}", wide(s[i]))?;
+    for b in s {
+        print!(rt; "{b:02x}")?;
     }
     Ok(())
 }
 
-fn flag(rt: &impl Print, b: bool) -> Result<()> {
-    if b { decimal(rt, 1) } else { decimal(rt, 0) }
-}
-
 fn crc(rt: &impl Print, s: &[u8]) -> Result<()> {
-    text(rt, b"crc ")?;
     let crc = words::crc(s);
-    println!(rt; "{crc:04x}")
-}
-
-fn config_fields(rt: &impl Print, number: u64, c: Config) -> Result<()> {
-    text(rt, b"config")?;
-    decimal(rt, number)?;
-    decimal(rt, c.req as u64)?;
-    decimal(rt, c.pre as u64)?;
-    decimal(rt, c.ben as u64)?;
-    decimal(rt, c.qen as u64)?;
-    text(rt, b"\n")
+    println!(rt; "crc {crc:04x}")
 }
 
 fn config(rt: &impl Print, frame: &[u8]) -> Result<()> {
@@ -51,20 +25,16 @@ fn config(rt: &impl Print, frame: &[u8]) -> Result<()> {
         qen: 0,
     };
     let read = frames::read_config(frame);
-    match read {
-        ConfigRead::Frame(c) => config_fields(rt, 0, c),
-        ConfigRead::WrongLength => config_fields(rt, 8, zeros),
-        ConfigRead::WrongType => config_fields(rt, 9, zeros),
-        ConfigRead::WrongCheck => config_fields(rt, 10, zeros),
-    }
+    let number = number_of(read);
+    let Config { req, pre, ben, qen } = read.unwrap_or(zeros);
+    println!(rt; "config {number} {req} {pre} {ben} {qen}")
 }
 
-fn written(rt: &impl Print, number: u8, out: &[u8]) -> Result<()> {
-    text(rt, b" written")?;
-    decimal(rt, number as u64)?;
-    text(rt, b" ")?;
+fn written(rt: &impl Print, done: std::result::Result<(), Refusal>, out: &[u8]) -> Result<()> {
+    let number = number_of(done);
+    print!(rt; " written {number} ")?;
     hex(rt, out)?;
-    text(rt, b"\n")
+    println!(rt; "")
 }
 
 fn write_config(
@@ -75,20 +45,9 @@ fn write_config(
     qen: u16,
     out: &mut [u8],
 ) -> Result<()> {
-    text(rt, b"config")?;
-    let number = frames::write_config(Config { req, pre, ben, qen }, out);
-    written(rt, number, out)
-}
-
-fn grant_fields(rt: &impl Print, number: u64, g: Grant) -> Result<()> {
-    text(rt, b"grant")?;
-    decimal(rt, number)?;
-    decimal(rt, g.nodeid as u64)?;
-    decimal(rt, g.gnt as u64)?;
-    flag(rt, g.gntval)?;
-    flag(rt, g.linkerr)?;
-    flag(rt, g.crcerr)?;
-    text(rt, b"\n")
+    print!(rt; "config")?;
+    let done = frames::write_config(Config { req, pre, ben, qen }, out);
+    written(rt, done, out)
 }
 
 fn grant(rt: &impl Print, frame: &[u8]) -> Result<()> {
@@ -100,24 +59,13 @@ fn grant(rt: &impl Print, frame: &[u8]) -> Result<()> {
         crcerr: false,
     };
     let read = frames::read_grant(frame);
-    match read {
-        GrantRead::Frame(g) => grant_fields(rt, 0, g),
-        GrantRead::WrongLength => grant_fields(rt, 8, zeros),
-        GrantRead::WrongType => grant_fields(rt, 9, zeros),
-        GrantRead::WrongCheck => grant_fields(rt, 10, zeros),
-        GrantRead::WrongForm => grant_fields(rt, 11, zeros),
-    }
-}
-
-fn held_fields(rt: &impl Print, number: u64, g: Held) -> Result<()> {
-    text(rt, b"held")?;
-    decimal(rt, number)?;
-    decimal(rt, g.nodeid as u64)?;
-    flag(rt, g.gntval)?;
-    flag(rt, g.linkerr)?;
-    flag(rt, g.crcerr)?;
-    decimal(rt, g.set as u64)?;
-    text(rt, b"\n")
+    let number = number_of(read);
+    let g = read.unwrap_or(zeros);
+    let [gntval, linkerr, crcerr] = [g.gntval, g.linkerr, g.crcerr].map(u8::from);
+    println!(rt;
+        "grant {number} {} {} {gntval} {linkerr} {crcerr}",
+        g.nodeid, g.gnt
+    )
 }
 
 fn held(rt: &impl Print, frame: &[u8]) -> Result<()> {
@@ -129,13 +77,13 @@ fn held(rt: &impl Print, frame: &[u8]) -> Result<()> {
         set: 0,
     };
     let read = frames::read_held(frame);
-    match read {
-        HeldRead::Frame(g) => held_fields(rt, 0, g),
-        HeldRead::WrongLength => held_fields(rt, 8, zeros),
-        HeldRead::WrongType => held_fields(rt, 9, zeros),
-        HeldRead::WrongCheck => held_fields(rt, 10, zeros),
-        HeldRead::WrongForm => held_fields(rt, 11, zeros),
-    }
+    let number = number_of(read);
+    let g = read.unwrap_or(zeros);
+    let [gntval, linkerr, crcerr] = [g.gntval, g.linkerr, g.crcerr].map(u8::from);
+    println!(rt;
+        "held {number} {} {gntval} {linkerr} {crcerr} {}",
+        g.nodeid, g.set
+    )
 }
 
 // The flags as in the frame: gntVal, linkErr and CRCErr in bits 0, 1 and 2.
@@ -147,21 +95,20 @@ fn write_held(rt: &impl Print, nodeid: u8, flags: u8, set: u16, out: &mut [u8]) 
         crcerr: flags / 4 % 2 == 1,
         set,
     };
-    text(rt, b"held")?;
-    let number = frames::write_held(held, out);
-    written(rt, number, out)
+    print!(rt; "held")?;
+    let done = frames::write_held(held, out);
+    written(rt, done, out)
 }
 
 fn host(rt: &impl Print, n: usize, h: usize, block: &[u8]) -> Result<()> {
     let mut number = 255u8;
     let part = frames::host_frame(n, h, block, &mut number);
-    text(rt, b"host")?;
-    decimal(rt, number as u64)?;
+    print!(rt; "host {number}")?;
     if 0 < part.len() {
-        text(rt, b" ")?;
+        print!(rt; " ")?;
         hex(rt, part)?;
     }
-    text(rt, b"\n")
+    println!(rt; "")
 }
 
 // The check of the catalogue, and of nothing.

@@ -6,14 +6,15 @@ use native.Mathlib.Nat.{le_of_eq}
 use lib.Dec.{lit<, lit≤}
 use lib.ListN.{length, get_or}
 use lib.Seq.{take_all}
+use Rattle.std.specs.Prelude.{Ok}
+use Rattle.refusals.specs.Numbers.{answer_of}
 use Rattle.laws.specs.Steps.{steps}
 use Rattle.laws.specs.Bytes.{Bytes, big_endian, row}
 use Rattle.laws.proofs.Bytes.{field_row, row_fields}
 use Rattle.frames.specs.Width.{narrow}
-use Rattle.frames.specs.Config.{config_len, config_type, config_fields, config_frame, config_of, no_config, config_answer, read_config}
+use Rattle.frames.specs.Config.{config_len, config_type, config_fields, config_frame, config_of, no_config, read_config}
 use Rattle.frames.specs.Frame.{sealed, body_of, form_number}
 use Rattle.frames.specs.declared.config.Config.{Config}
-use Rattle.frames.specs.declared.config.ConfigRead.TheVariants.{Frame}
 use Rattle.frames.proofs.FrameLaws.{length_sealed, sound, form-sealed, body_sealed, sealed-form, body_bytes, body_long, answered_zero}
 
 length_row : (c : Config) → length (row narrow (config_fields c)) + 3 ≡ config_len
@@ -35,13 +36,13 @@ unfolding config_of steps
 row-config_of w body bytes long =
     row_fields w body bytes 4 (le_of_eq (sym long)) ∙ take_all (4 * w) body (le_of_eq long)
 
-pub config_reads : (c : Config) → ((i : ℕ) → get_or (config_fields c) i 0 < 256 ^ narrow) → read_config (config_frame c) ≡ config_answer (Frame c)
+pub config_reads : (c : Config) → ((i : ℕ) → get_or (config_fields c) i 0 < 256 ^ narrow) → read_config (config_frame c) ≡ answer_of no_config (Ok c)
 unfolding config_frame
 config_reads c small =
     let body = row narrow (config_fields c) in
     rw (form-sealed config_len config_type body (length_row c), body_sealed config_len config_type body (length_row c), config_of-row narrow c small)
 
-pub config_writes : (s : List ℕ) → Bytes s → (c : Config) → read_config s ≡ config_answer (Frame c) → config_frame c ≡ s
+pub config_writes : (s : List ℕ) → Bytes s → (c : Config) → read_config s ≡ answer_of no_config (Ok c) → config_frame c ≡ s
 unfolding config_frame
 config_writes s bytes c e =
     let body = body_of config_len s in

@@ -8,13 +8,14 @@ use native.Mathlib.Omega.{arith}
 use borrow.Author.Tests.{leb-true, le-leb}
 use lib.Dec.{leb, lit≤}
 use lib.ListN.{length}
+use Rattle.std.specs.Prelude.{Ok}
+use Rattle.refusals.specs.Numbers.{answer_of}
 use Rattle.laws.specs.Bytes.{Bytes}
 use Rattle.laws.proofs.Tests.{both}
 use Rattle.frames.specs.Flags.{zeros_above}
-use Rattle.frames.specs.Grant.{grant_len, grant_type, agrees, in_form, grant_body, grant_frame, grant_of, body_in_form, no_grant, grant_answer, grant_number, read_grant}
+use Rattle.frames.specs.Grant.{grant_len, grant_type, agrees, in_form, grant_body, grant_frame, grant_of, body_in_form, no_grant, grant_number, read_grant}
 use Rattle.frames.specs.Frame.{sealed, body_of}
 use Rattle.frames.specs.declared.grant.Grant.{Grant}
-use Rattle.frames.specs.declared.grant.GrantRead.TheVariants.{Frame}
 use Rattle.frames.proofs.FlagLaws.{flags_read, flags-written}
 use Rattle.frames.proofs.FrameLaws.{sound, form-sealed, body_sealed, sealed-form, body_bytes, body_long, formed_zero, answered_zero}
 
@@ -47,13 +48,13 @@ body_grant_of (a ∷ f ∷ []) bytes long e =
     let gnt : a % 16 ≤ 15 = omega arith in
     (rw (div-add-mod' a 16, flags-written f p.0), rw (le-leb _ _ node, le-leb _ _ gnt) p.1)
 
-pub grant_reads : (g : Grant) → in_form g ≡ true → read_grant (grant_frame g) ≡ grant_answer (Frame g)
+pub grant_reads : (g : Grant) → in_form g ≡ true → read_grant (grant_frame g) ≡ answer_of no_grant (Ok g)
 unfolding grant_frame
 grant_reads g e =
     let read = grant_of_body g e in
     rw (form-sealed grant_len grant_type (grant_body g) refl, body_sealed grant_len grant_type (grant_body g) refl, read.1, read.0)
 
-pub grant_writes : (s : List ℕ) → Bytes s → (g : Grant) → read_grant s ≡ grant_answer (Frame g) → (grant_frame g ≡ s) × (in_form g ≡ true)
+pub grant_writes : (s : List ℕ) → Bytes s → (g : Grant) → read_grant s ≡ answer_of no_grant (Ok g) → (grant_frame g ≡ s) × (in_form g ≡ true)
 unfolding grant_frame
 grant_writes s bytes g e =
     let body = body_of grant_len s in

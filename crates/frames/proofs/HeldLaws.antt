@@ -9,15 +9,16 @@ use borrow.Author.Tests.{ltb-true, lt-ltb}
 use lib.Dec.{ltb}
 use lib.ListN.{length, take}
 use lib.Seq.{take_all}
+use Rattle.std.specs.Prelude.{Ok}
+use Rattle.refusals.specs.Numbers.{answer_of}
 use Rattle.laws.specs.Bytes.{Bytes, big_endian, number}
 use Rattle.laws.proofs.Bytes.{length_big, number_big, number_small, big_number, bytes_drop}
 use Rattle.laws.proofs.Tests.{both, every}
 use Rattle.frames.specs.Width.{set_bits}
 use Rattle.frames.specs.Flags.{zeros_above}
-use Rattle.frames.specs.Held.{held_len, held_type, held_agrees, held_in_form, held_body, held_frame, held_of, held_body_in_form, no_held, held_answer, held_number, read_held, write_held_number}
+use Rattle.frames.specs.Held.{held_len, held_type, held_agrees, held_in_form, held_body, held_frame, held_of, held_body_in_form, no_held, held_number, read_held, write_held_number}
 use Rattle.frames.specs.Frame.{sealed, body_of, room_number}
 use Rattle.frames.specs.declared.held.Held.{Held}
-use Rattle.frames.specs.declared.held.HeldRead.TheVariants.{Frame}
 use Rattle.frames.proofs.FlagLaws.{flags_read, flags-written}
 use Rattle.frames.proofs.FrameLaws.{length_sealed, sound, form-sealed, body_sealed, sealed-form, body_bytes, body_long, formed_zero, answered_zero}
 
@@ -55,13 +56,13 @@ module _ (w : ℕ) where
       let fits : number (take w s) < 256 ^ w = omega (arith, number_small w 0 s bs) in
       (rw (flags-written f low, set), every node (every (lt-ltb _ _ fits) agrees))
 
-  pub held_reads : (g : Held) → held_in_form w g ≡ true → read_held w (held_frame w g) ≡ held_answer (Frame g)
+  pub held_reads : (g : Held) → held_in_form w g ≡ true → read_held w (held_frame w g) ≡ answer_of no_held (Ok g)
   unfolding held_frame
   held_reads g e =
       let read = held_of_body g e in
       rw (form-sealed (held_len w) (held_type w) (held_body w g) (length_body g), body_sealed (held_len w) (held_type w) (held_body w g) (length_body g), read.1, read.0)
 
-  pub held_writes : (s : List ℕ) → Bytes s → (g : Held) → read_held w s ≡ held_answer (Frame g) → (held_frame w g ≡ s) × (held_in_form w g ≡ true)
+  pub held_writes : (s : List ℕ) → Bytes s → (g : Held) → read_held w s ≡ answer_of no_held (Ok g) → (held_frame w g ≡ s) × (held_in_form w g ≡ true)
   unfolding held_frame
   held_writes s bytes g e =
       let len = held_len w in

@@ -1,11 +1,10 @@
 -- The configuration frame, 11 bytes: type 1, req, pre, ben, qen, check.
 use Rattle.std.specs.Prelude.{ℕ, List, [], ◌∷◌}
 use Rattle.laws.specs.Bytes.{row, field}
+use Rattle.refusals.specs.Numbers.{Answer}
 use Rattle.frames.specs.Width.{narrow}
-use Rattle.frames.specs.Frame.{sealed, body_of, form_number, Answer, answered, room_number, written}
+use Rattle.frames.specs.Frame.{sealed, body_of, form_number, answered, room_number, written}
 use Rattle.frames.specs.declared.config.Config.{Config}
-use Rattle.frames.specs.declared.config.ConfigRead.{ConfigRead}
-use Rattle.frames.specs.declared.config.ConfigRead.TheVariants.{Frame, WrongLength, WrongType, WrongCheck}
 
 abbrev pub config_len : ℕ
 config_len = 11
@@ -25,13 +24,6 @@ config_of w body = record { req = field w body 0; pre = field w body 1; ben = fi
 
 abbrev pub no_config : Config
 no_config = record { req = 0; pre = 0; ben = 0; qen = 0 }
-
--- the number and the fields of each case
-abbrev pub config_answer : ConfigRead → Answer Config
-config_answer (Frame c) = record { number = 0; fields = c }
-config_answer WrongLength = record { number = 8; fields = no_config }
-config_answer WrongType = record { number = 9; fields = no_config }
-config_answer WrongCheck = record { number = 10; fields = no_config }
 
 -- what reading s answers
 abbrev pub read_config : List ℕ → Answer Config

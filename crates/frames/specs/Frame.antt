@@ -2,8 +2,7 @@
 use Rattle.std.specs.Prelude.{ℕ, ◌-◌, Bool, not, cond, List, ◌∷◌, ◌++◌, eqb, ltb, length, get_or, drop}
 use Rattle.laws.specs.Parts.{part}
 use Rattle.words.specs.Check.{checked, intact}
-use Rattle.frames.specs.declared.frame.Form.{Form}
-use Rattle.frames.specs.declared.frame.Form.TheVariants.{Sound, WrongLength, WrongType, WrongCheck}
+use Rattle.refusals.specs.Numbers.{Answer}
 
 abbrev pub differs : ℕ → ℕ → Bool
 differs a b = not (eqb a b)
@@ -28,17 +27,6 @@ formed_number len type in_form s =
     cond (eqb (form_number len type s) 0)
     (cond (in_form (body_of len s)) 0 11)
     (form_number len type s)
-
-abbrev pub form_answer : Form → ℕ
-form_answer Sound = 0
-form_answer WrongLength = 8
-form_answer WrongType = 9
-form_answer WrongCheck = 10
-
--- what a reader answers: the number, and the fields
-pub record Answer (A : Type 0) : Type 0 where
-  pub number : ℕ
-  pub fields : A
 
 -- zeros where it declines
 abbrev pub answered : {A : Type 0} → ℕ → A → A → Answer A

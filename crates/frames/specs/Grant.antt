@@ -1,11 +1,10 @@
 -- The grant frame of type 2, 5 bytes, which is read and no longer written: type; nodeId and gnt, four bits each; the flags; check.
 use Rattle.std.specs.Prelude.{ℕ, ◌+◌, ◌*◌, ◌/◌, ◌%◌, Bool, false, ◌&&◌, ◌||◌, List, [], ◌∷◌, eqb, leb, get_or}
 use Rattle.laws.specs.Sets.{has}
+use Rattle.refusals.specs.Numbers.{Answer}
 use Rattle.frames.specs.Flags.{flags, zeros_above}
-use Rattle.frames.specs.Frame.{sealed, body_of, formed_number, Answer, answered}
+use Rattle.frames.specs.Frame.{sealed, body_of, formed_number, answered}
 use Rattle.frames.specs.declared.grant.Grant.{Grant}
-use Rattle.frames.specs.declared.grant.GrantRead.{GrantRead}
-use Rattle.frames.specs.declared.grant.GrantRead.TheVariants.{Frame, WrongLength, WrongType, WrongCheck, WrongForm}
 
 abbrev pub grant_len : ℕ
 grant_len = 5
@@ -43,14 +42,6 @@ body_in_form body = zeros_above (get_or body 1 0) && agrees (grant_of body)
 
 abbrev pub no_grant : Grant
 no_grant = record { nodeid = 0; gnt = 0; gntval = false; linkerr = false; crcerr = false }
-
--- the number and the fields of each case
-abbrev pub grant_answer : GrantRead → Answer Grant
-grant_answer (Frame g) = record { number = 0; fields = g }
-grant_answer WrongLength = record { number = 8; fields = no_grant }
-grant_answer WrongType = record { number = 9; fields = no_grant }
-grant_answer WrongCheck = record { number = 10; fields = no_grant }
-grant_answer WrongForm = record { number = 11; fields = no_grant }
 
 -- the numbers 8 to 10, then 11
 abbrev pub grant_number : List ℕ → ℕ

@@ -4,11 +4,10 @@ use Rattle.std.specs.Prelude.{ℕ, ◌+◌, ◌^◌, Bool, false, not, ◌&&◌,
 use Rattle.laws.specs.Sets.{has}
 use Rattle.laws.specs.Bytes.{big_endian, number_at}
 use Rattle.frames.specs.Width.{narrow, set_bits}
+use Rattle.refusals.specs.Numbers.{Answer}
 use Rattle.frames.specs.Flags.{flags, zeros_above}
-use Rattle.frames.specs.Frame.{sealed, body_of, formed_number, Answer, answered, room_number, written}
+use Rattle.frames.specs.Frame.{sealed, body_of, formed_number, answered, room_number, written}
 use Rattle.frames.specs.declared.held.Held.{Held}
-use Rattle.frames.specs.declared.held.HeldRead.{HeldRead}
-use Rattle.frames.specs.declared.held.HeldRead.TheVariants.{Frame, WrongLength, WrongType, WrongCheck, WrongForm}
 
 abbrev pub held_len : ℕ → ℕ
 held_len w = w + 5
@@ -46,14 +45,6 @@ held_body_in_form w body = zeros_above (get_or body 1 0) && (ltb (get_or body 0 
 
 abbrev pub no_held : Held
 no_held = record { nodeid = 0; gntval = false; linkerr = false; crcerr = false; set = 0 }
-
--- the number and the fields of each case
-abbrev pub held_answer : HeldRead → Answer Held
-held_answer (Frame g) = record { number = 0; fields = g }
-held_answer WrongLength = record { number = 8; fields = no_held }
-held_answer WrongType = record { number = 9; fields = no_held }
-held_answer WrongCheck = record { number = 10; fields = no_held }
-held_answer WrongForm = record { number = 11; fields = no_held }
 
 -- the numbers 8 to 10, then 11
 abbrev pub held_number : ℕ → List ℕ → ℕ

@@ -1,11 +1,12 @@
 // The configuration frame.
-ghost use Rattle.std.specs.Prelude.{◌≡◌, ◌+◌, ◌-◌, ◌≤◌, length, take, drop};
-ghost use Rattle.laws.specs.Bytes.{number};
+ghost use Rattle.std.specs.Prelude.{◌≡◌, ◌-◌, length};
+ghost use Rattle.refusals.specs.Numbers.{number_of, answer_of};
 ghost use Rattle.frames.specs.Width.{narrow};
-ghost use Rattle.frames.specs.Config.{config_len, config_frame, config_of, config_answer, read_config, write_config_number, write_config_output};
+ghost use Rattle.frames.specs.Config.{config_len, config_frame, config_of, no_config, read_config, write_config_number, write_config_output};
 
-use crate::frame::{Form, open, put};
-use words::two_bytes;
+use crate::frame::{open, put};
+use refusals::Refusal;
+use words::{ByBits, of_two, seal, two_bytes};
 
 #[derive(Clone, Copy)]
 pub struct Config {
@@ -15,30 +16,12 @@ pub struct Config {
     pub qen: u16,
 }
 
-// What reading a configuration frame answers.
-#[derive(Clone, Copy)]
-pub enum ConfigRead {
-    Frame(Config),
-    WrongLength,
-    WrongType,
-    WrongCheck,
-}
-
-// The sixteen bits that start at byte `at`.
-pub(crate) fn word(s: &[u8], at: usize) -> u16
-    requires { at + 2 ≤ length s.now }
-    ensures { result ≡ number (take 2 (drop at s.now)) }
-{
-    words::of_two(s[at], s[at + 1])
-}
-
 impl Config {
     const TYPE: u8 = 1;
 
     pub const LEN: usize = 11;
-    // The bytes between type and check.
-    pub const PART: usize = Config::LEN - 3;
 
+    // Byte by byte: the parts copied to their places take more lines.
     fn frame(self) -> [u8; Config::LEN]
         ensures { result ≡ config_frame self }
     {
@@ -59,38 +42,33 @@ impl Config {
             0,
             0,
         ];
-        words::seal(&mut frame);
+        seal::<ByBits>(&mut frame);
         frame
     }
 
+    // No `From`, which could not ask for the body's length.
+    #[tactic(auto, using(words::proofs::BytesAt::two_at), unfolding(crate::specs::Config::config_of))]
     fn of(body: &[u8]) -> Config
         requires { length body.now ≡ config_len - 3 }
         ensures { result ≡ config_of narrow body.now }
     {
         Config {
-            req: word(body, 0),
-            pre: word(body, 2),
-            ben: word(body, 4),
-            qen: word(body, 6),
+            req: of_two(body[0], body[1]),
+            pre: of_two(body[2], body[3]),
+            ben: of_two(body[4], body[5]),
+            qen: of_two(body[6], body[7]),
         }
     }
 }
 
-pub fn read_config(frame: &[u8]) -> ConfigRead
-    ensures { config_answer result ≡ read_config frame.now }
+pub fn read_config(frame: &[u8]) -> Result<Config, Refusal>
+    ensures { answer_of no_config result ≡ read_config frame.now }
 {
-    let opened = open(frame, Config::LEN, Config::TYPE);
-    match opened {
-        Form::WrongLength => ConfigRead::WrongLength,
-        Form::WrongType => ConfigRead::WrongType,
-        Form::WrongCheck => ConfigRead::WrongCheck,
-        Form::Sound => ConfigRead::Frame(Config::of(&frame[1..1 + Config::PART])),
-    }
+    Ok(Config::of(open(frame, Config::LEN, Config::TYPE)?))
 }
 
-pub fn write_config(fields: Config, out: &mut [u8]) -> u8
-    ensures { (result ≡ write_config_number out.old) × (out.new ≡ write_config_output fields out.old) }
+pub fn write_config(fields: Config, out: &mut [u8]) -> Result<(), Refusal>
+    ensures { (number_of result ≡ write_config_number out.old) × (out.new ≡ write_config_output fields out.old) }
 {
-    let frame = fields.frame();
-    put(&frame, out)
+    put(&fields.frame(), out)
 }

@@ -1,9 +1,11 @@
 // The grant frame of type 2, which is read and no longer written.
 ghost use Rattle.std.specs.Prelude.{◌≡◌, ◌-◌, length, cond};
+ghost use Rattle.refusals.specs.Numbers.{answer_of};
 ghost use Rattle.frames.specs.Frame.{answered};
-ghost use Rattle.frames.specs.Grant.{grant_len, agrees, grant_of, body_in_form, no_grant, grant_answer, read_grant};
+ghost use Rattle.frames.specs.Grant.{grant_len, agrees, grant_of, body_in_form, no_grant, read_grant};
 
-use crate::frame::{Form, open};
+use crate::frame::open;
+use refusals::Refusal;
 use words::holds;
 
 // Document 01's nodeId, gnt, gntVal, linkErr and CRCErr.
@@ -16,35 +18,26 @@ pub struct Grant {
     pub crcerr: bool,
 }
 
-// What reading a grant frame answers.
-#[derive(Clone, Copy)]
-pub enum GrantRead {
-    Frame(Grant),
-    WrongLength,
-    WrongType,
-    WrongCheck,
-    WrongForm,
-}
-
 impl Grant {
     const TYPE: u8 = 2;
 
     pub const LEN: usize = 5;
-    // The bytes between type and check.
-    pub const PART: usize = Grant::LEN - 3;
 
+    // In one way only: the number 0 may be granted.
     fn agrees(self) -> bool
         ensures { result ≡ agrees self }
     {
         self.gntval | (self.gnt == 0)
     }
 
+    // No `From`, which could not ask for the body's length.
+    #[tactic(auto, unfolding(crate::specs::Grant::grant_of))]
     fn of(body: &[u8]) -> Grant
         requires { length body.now ≡ grant_len - 3 }
         ensures { result ≡ grant_of body.now }
     {
         let numbers = body[0];
-        let flags = body[1] as u16;
+        let flags = u16::from(body[1]);
         Grant {
             nodeid: numbers / 16,
             gnt: numbers % 16,
@@ -55,26 +48,21 @@ impl Grant {
     }
 }
 
-// A grant of a body that is in form.
-fn grant_of(body: &[u8]) -> GrantRead
+// A grant of a body that is in form. No `TryFrom`, which could not ask for the body's length.
+#[tactic(auto, unfolding(crate::specs::Grant::body_in_form))]
+fn grant_of(body: &[u8]) -> Result<Grant, Refusal>
     requires { length body.now ≡ grant_len - 3 }
-    ensures { grant_answer result ≡ answered (cond (body_in_form body.now) 0 11) (grant_of body.now) no_grant }
+    ensures { answer_of no_grant result ≡ answered (cond (body_in_form body.now) 0 11) (grant_of body.now) no_grant }
 {
     let g = Grant::of(body);
     if (body[1] <= 7) & g.agrees() {
-        return GrantRead::Frame(g);
+        return Ok(g);
     }
-    GrantRead::WrongForm
+    Err(Refusal::BadGrantField)
 }
 
-pub fn read_grant(frame: &[u8]) -> GrantRead
-    ensures { grant_answer result ≡ read_grant frame.now }
+pub fn read_grant(frame: &[u8]) -> Result<Grant, Refusal>
+    ensures { answer_of no_grant result ≡ read_grant frame.now }
 {
-    let opened = open(frame, Grant::LEN, Grant::TYPE);
-    match opened {
-        Form::WrongLength => GrantRead::WrongLength,
-        Form::WrongType => GrantRead::WrongType,
-        Form::WrongCheck => GrantRead::WrongCheck,
-        Form::Sound => grant_of(&frame[1..1 + Grant::PART]),
-    }
+    grant_of(open(frame, Grant::LEN, Grant::TYPE)?)
 }

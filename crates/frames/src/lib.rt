@@ -7,7 +7,7 @@ mod grant;
 mod held;
 mod part;
 
-pub use config::{Config, ConfigRead, read_config, write_config};
-pub use grant::{Grant, GrantRead, read_grant};
-pub use held::{Held, HeldRead, read_held, write_held};
+pub use config::{Config, read_config, write_config};
+pub use grant::{Grant, read_grant};
+pub use held::{Held, read_held, write_held};
 pub use part::{Ports, host_frame};

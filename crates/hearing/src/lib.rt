@@ -1,7 +1,7 @@
 // Rules 1 and 2: what of the hosts' fields counts.
 #![tactic(auto)]
 
-ghost use Rattle.std.specs.Prelude.{◌≡◌, cond, ◌-◌, ◌<◌, ◌≤◌, get_or};
+ghost use Rattle.std.specs.Prelude.{◌≡◌, cond, ◌≤◌, get_or};
 ghost use Rattle.frames.specs.Part.{most_ports};
 ghost use Rattle.laws.specs.Sets.{has, tabled};
 ghost use Rattle.ports.specs.Owners.{among};
@@ -9,9 +9,9 @@ ghost use Rattle.hearing.specs.Heard.{tables};
 ghost use Rattle.hearing.specs.Votes.{heeded, cast, Present};
 
 use ports::{Set, State, Table, at_most};
-use words::holds;
+use words::{holds, minus};
 
-// The requests and the planned claims of all hosts.
+// The requests and the planned claims of all hosts. Two tables, for rules 3 to 6 take each as one (document 01).
 #[derive(Clone, Copy)]
 pub struct Tables {
     pub req: Table,
@@ -27,35 +27,21 @@ pub struct Votes {
 
 // The ports in s that are of port i's operator.
 fn among(owners: Set, i: usize, s: Set) -> Set
-    requires { i < most_ports }
     ensures { result ≡ among owners i s }
 {
     if holds(owners, i) {
         s & owners
     } else {
-        s - (s & owners)
-    }
-}
-
-// The others in s.
-fn others(owners: Set, i: usize, s: Set) -> Set
-    requires { i < most_ports }
-    ensures { result ≡ s - among owners i s }
-{
-    if holds(owners, i) {
-        s - (s & owners)
-    } else {
-        s & owners
+        minus(s, owners)
     }
 }
 
 // With the vote of host h, if it is heard; it lets through whoever is of the other operator.
 fn vote(votes: Votes, owners: Set, heard: Set, ben: Set, h: usize) -> Votes
-    requires { h < most_ports }
     ensures { result ≡ cond (has heard h) (cast (heeded owners heard ben h) votes) votes }
 {
     if holds(heard, h) {
-        let ballot = ben | others(owners, h, heard);
+        let ballot = ben | (heard - among(owners, h, heard));
         Votes {
             uncleared: votes.uncleared & ballot,
             enabled: (votes.enabled & ballot) | votes.uncleared,
@@ -65,6 +51,8 @@ fn vote(votes: Votes, owners: Set, heard: Set, ben: Set, h: usize) -> Votes
     }
 }
 
+// By index, for a host votes by its number, and rows from n on are nobody's.
+#[tactic(auto, using(laws::proofs::Loops::again, laws::proofs::Loops::none))]
 fn present(n: usize, owners: Set, heard: Set, ben: Table) -> Set
     requires { n ≤ most_ports }
     ensures { Present n owners heard ben result }
@@ -81,7 +69,6 @@ fn present(n: usize, owners: Set, heard: Set, ben: Table) -> Set
 
 // What counts of a row of host i.
 fn row_of(owners: Set, present: Set, row: Set, i: usize) -> Set
-    requires { i < most_ports }
     ensures { result ≡ cond (has present i) (among owners i row) 0 }
 {
     if holds(present, i) {
@@ -91,6 +78,7 @@ fn row_of(owners: Set, present: Set, row: Set, i: usize) -> Set
     }
 }
 
+// By index, for the rows from n on stay empty.
 fn rows_of(n: usize, owners: Set, present: Set, rows: &Table) -> Table
     requires { n ≤ most_ports }
     ensures { result ≡ tabled most_ports (λ i. cond (has present i) (among owners i (get_or rows.now i 0)) 0) n }

@@ -1,24 +1,22 @@
 // What the program says.
 use import_steps::Import;
-use std::io::{Result, Stderr, Stdout};
+use outside::Streams;
+use refusals::Refusal;
+use std::io::{Result, Stdout};
 
-pub fn tell_usage(err: Stderr) -> Result<()> {
-    err.write_all(b"import PORTS MODE I J CAPTURE TRACE: the first four are numbers\n")
+pub fn tell_usage(to: Streams) -> Result<()> {
+    to.err.write_all(b"import PORTS MODE I J CAPTURE TRACE: the first four are numbers\n")
 }
 
-// Why nothing is imported, by its number.
-pub fn decline(err: Stderr, capture: &[u8], number: u8) -> Result<()> {
-    err.write_all(capture)?;
-    print!(err; ": {number}")?;
-    if number == 1 {
-        err.write_all(b" (ports)\n")
-    } else if number == 2 {
-        err.write_all(b" (offsets)\n")
-    } else if number == 5 {
-        err.write_all(b" (mode)\n")
-    } else {
-        err.write_all(b" (not such a capture)\n")
-    }
+// Why nothing is imported, and by its number.
+pub fn decline(to: Streams, capture: &[u8], why: Refusal) -> Result<()> {
+    let said = match why {
+        Refusal::BadPorts => "ports",
+        Refusal::BadOffset => "offsets",
+        Refusal::BadLimit => "mode",
+        _ => "not such a capture",
+    };
+    to.tell(capture, format_args!("{} ({said})", why.number()))
 }
 
 // The last line.

@@ -3,7 +3,7 @@ use Rattle.std.specs.Prelude.{ℕ, cond, List, ◌++◌, eqb, length}
 use Rattle.laws.specs.Bytes.{big_endian}
 use Rattle.lent.specs.Filled.{fitted_number, filled_after}
 use Rattle.imports.specs.Import.{import_answer, import_output}
-use Rattle.imports.specs.declared.importing.Imported.{Imported}
+use Rattle.imports.specs.declared.answer.Imported.{Imported}
 
 abbrev pub report_len : ℕ
 report_len = 8
@@ -17,7 +17,7 @@ module _ (m n mode i j : ℕ) (s out report : List ℕ) where
   call_number = fitted_number (eqb (length report) report_len) (import_answer m n mode i j s out).number
 
   abbrev pub call_report : List ℕ
-  call_report = filled_after call_number (report_bytes (import_answer m n mode i j s out)) report
+  call_report = filled_after call_number (report_bytes (import_answer m n mode i j s out).fields) report
 
   abbrev pub call_output : List ℕ
   call_output = cond (eqb (length report) report_len) (import_output m n mode i j s out) out

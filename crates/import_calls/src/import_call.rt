@@ -7,19 +7,14 @@ use imports::Imported;
 
 const REPORT_LEN: usize = 8;
 
+// The four low bytes of each. One by one: the library joins arrays only on a heap.
 fn report_bytes(told: Imported) -> [u8; REPORT_LEN]
     ensures { result ≡ report_bytes told }
 {
-    let resent = words::four_bytes(told.resent);
+    let length = told.length.to_be_bytes();
+    let resent = told.resent.to_be_bytes();
     [
-        (told.length / 256 / 256 / 256 % 256) as u8,
-        (told.length / 256 / 256 % 256) as u8,
-        (told.length / 256 % 256) as u8,
-        (told.length % 256) as u8,
-        resent[0],
-        resent[1],
-        resent[2],
-        resent[3],
+        length[4], length[5], length[6], length[7], resent[0], resent[1], resent[2], resent[3],
     ]
 }
 
@@ -37,11 +32,11 @@ pub fn bellacush_import(
     if report.len() != REPORT_LEN {
         return 8;
     }
-    let told = imports::import_capture(n as usize, mode, i as usize, j as usize, capture, out);
-    if told.number != 0 {
-        return told.number as u32;
+    match imports::import_capture(n as usize, mode, i as usize, j as usize, capture, out) {
+        Ok(told) => {
+            report.copy_from_slice(&report_bytes(told));
+            0
+        }
+        Err(why) => u32::from(why.number()),
     }
-    let bytes = report_bytes(told);
-    copying::copy(&bytes, report);
-    0
 }

@@ -1,8 +1,8 @@
 // The two passes of the import over a file: its records taken, and their bodies written.
 #![tactic(auto)]
 
-mod pieces;
-mod shown_progress;
+mod laying;
+mod records;
 
-pub use pieces::{Pass, Source, lay, scan};
-pub use shown_progress::end_progress;
+pub use laying::lay;
+pub use records::{Source, changed, scan};

@@ -1,20 +1,23 @@
 -- What is known of a packet that fits, and of a step that takes one.
-use Rattle.std.proofs.Common.{◌≡◌, ℕ, ◌+◌, ◌<◌, ◌≤◌, Bool, true, false, cond, not, ◌&&◌, ◌||◌, eqb, ltb, leb, List, length, refl, arith, ltb-false, ltb-true, eqb-true, leb-false}
+use Rattle.std.proofs.Common.{◌≡◌, ℕ, ◌+◌, ◌<◌, ◌≤◌, Bool, true, false, cond, not, ◌&&◌, ◌||◌, eqb, ltb, leb, List, length, refl, ◌∙◌, ne_eqb, lt_of_lt_of_le, arith, ltb-false, ltb-true, eqb-true, leb-false}
 use borrow.Author.Tests.{eqb-false, not-true}
 use Rattle.laws.proofs.Tests.{both, neither}
+use Rattle.refusals.specs.Numbers.{number}
+use Rattle.refusals.specs.declared.Refusal.{Refusal}
+use Rattle.refusals.proofs.Unique.{refused_is_not_done}
+use Rattle.frames.specs.Part.{most_ports}
 use Rattle.ports.specs.Ready.{Ready}
 use Rattle.trace_parts.specs.Layout.{most_mode, most_slots, most_bodies}
 use Rattle.captures.specs.Capture.{packet_len, record_len, packet_in}
 use Rattle.captures.specs.declared.packet.Packet.{Packet}
-use Rattle.import_steps.specs.Taking.{start_number, begun, stale, same_slot, next_slot, new_body, fits, heard, slot_begun, took, step_number, numbered, taken}
-use Rattle.import_steps.specs.declared.taking.Import.{Import}
+use Rattle.import_steps.specs.Taking.{Known, start_number, begun, stale, same_slot, next_slot, new_body, fits, heard, slot_begun, took, step_number, numbered, taken}
 
-pub record Fitting (p : Import) (k : Packet) : Type 0 where
+pub record Fitting (p : Known) (k : Packet) : Type 0 where
   pub host : k.host < p.state.ports
   pub fresh : begun p && stale p.last k.slot ≡ false
   pub room : new_body p k ≡ true → p.bodies < most_bodies
 
-pub fitting : (p : Import) (k : Packet) → fits p k ≡ true → Fitting p k
+pub fitting : (p : Known) (k : Packet) → fits p k ≡ true → Fitting p k
 unfolding fits
 fitting p k e =
     let (a, e1) = both (eqb k.captured (packet_len p.state.ports)) _ e in
@@ -26,13 +29,13 @@ fitting p k e =
       room = λ f. leb-false most_bodies p.bodies (rw f at (not-true (new_body p k && leb most_bodies p.bodies) d));
     }
 
-pub next-room : (p : Import) (k : Packet) → next_slot p k ≡ true → p.slots < most_slots p.state.ports
+pub next-room : (p : Known) (k : Packet) → next_slot p k ≡ true → p.slots < most_slots p.state.ports
 unfolding next_slot
 next-room p k e =
     let (a, e1) = both (begun p) _ e in
     ltb-true _ _ (both (ltb p.slots (most_slots p.state.ports)) _ e1).0
 
-pub is_new : (p : Import) (k : Packet) → same_slot p k ≡ false → next_slot p k ≡ false → new_body p k ≡ true
+pub is_new : (p : Known) (k : Packet) → same_slot p k ≡ false → next_slot p k ≡ false → new_body p k ≡ true
 unfolding new_body
 is_new p k a b = rw (a, b)
 
@@ -64,13 +67,13 @@ startable m n mode i j e = ports_case (ltb n 1 || ltb m n) refl
     ports_case false q = offsets_case (leb n i || leb n j) refl q
 
 -- a record that is taken
-pub record Taken (m : ℕ) (p : Import) (len : ℕ) (k : Packet) : Type 0 where
+pub record Taken (m : ℕ) (p : Known) (len : ℕ) (k : Packet) : Type 0 where
   pub number : p.number ≡ 0
   pub start : Startable m p.state.ports p.mode p.state.initiator.0 p.state.target.0
   pub long : len ≡ record_len p.state.ports
   pub fits : fits p k ≡ true
 
-pub stepped : (m : ℕ) (p : Import) (len : ℕ) (k : Packet) → step_number m p len k ≡ 0 → Taken m p len k
+pub stepped : (m : ℕ) (p : Known) (len : ℕ) (k : Packet) → step_number m p len k ≡ 0 → Taken m p len k
 unfolding step_number
 stepped m p len k e = number_case (eqb p.number 0) refl
   where
@@ -91,15 +94,15 @@ stepped m p len k e = number_case (eqb p.number 0) refl
     number_case true q = wrong_case (eqb wrong 0) refl q
     number_case false q = let no : p.number ≡ 0 = rw q at e in absurd (eqb-false p.number 0 q no)
 
-pub ready : {m : ℕ} (p : Import) → Startable m p.state.ports p.mode p.state.initiator.0 p.state.target.0 → Ready m p.state
+pub ready : {m : ℕ} (p : Known) → Startable m p.state.ports p.mode p.state.initiator.0 p.state.target.0 → Ready m p.state
 ready p s = record { ports = s.ports; initiator = s.initiator; target = s.target }
 
 -- what the step makes of a record that it takes
-pub record Stepped (m : ℕ) (low : Bool) (p : Import) (r : List ℕ) : Type 0 where
+pub record Stepped (m : ℕ) (low : Bool) (p : Known) (r : List ℕ) : Type 0 where
   pub step : Taken m p (length r) (packet_in low r)
   pub is : taken m low p r ≡ took p (packet_in low r)
 
-pub step_taken : (m : ℕ) (low : Bool) (p : Import) (r : List ℕ) → (taken m low p r).number ≡ 0 → Stepped m low p r
+pub step_taken : (m : ℕ) (low : Bool) (p : Known) (r : List ℕ) → (taken m low p r).number ≡ 0 → Stepped m low p r
 unfolding taken numbered
 step_taken m low p r e = go (eqb number 0) refl
   where
@@ -110,12 +113,12 @@ step_taken m low p r e = go (eqb number 0) refl
     go true q = record { step = stepped m p _ _ (eqb-true number 0 q); is = rw q }
     go false q = absurd (eqb-false number 0 q (rw q at e))
 
-pub begun-some : (p : Import) (k : Packet) → same_slot p k ≡ true → 1 ≤ p.slots
+pub begun-some : (p : Known) (k : Packet) → same_slot p k ≡ true → 1 ≤ p.slots
 unfolding same_slot
 begun-some p k e = ltb-true 0 p.slots (both (begun p) _ e).0
 
 -- the open body has the packet's slot
-pub took-some : (p : Import) (k : Packet) → 1 ≤ (took p k).slots
+pub took-some : (p : Known) (k : Packet) → 1 ≤ (took p k).slots
 unfolding took heard slot_begun
 took-some p k = go (same_slot p k) (next_slot p k) refl
   where
@@ -123,3 +126,29 @@ took-some p k = go (same_slot p k) (next_slot p k) refl
     go true b e = begun-some p k e
     go false true e = omega arith
     go false false e = omega arith
+
+-- no number is given by it
+pub took_number : (p : Known) (k : Packet) → (took p k).number ≡ p.number
+unfolding took heard slot_begun
+took_number p k = go (same_slot p k) (next_slot p k)
+  where
+    go : (a b : Bool) → (cond a (heard p k) (cond b (slot_begun p k p.first (p.slots + 1) p.bodies) (slot_begun p k k.slot 1 (p.bodies + 1)))).number ≡ p.number
+    go true b = refl
+    go false true = refl
+    go false false = refl
+
+-- its host is a port of the shelf
+pub host_small : (p : Known) (len : ℕ) (k : Packet) → step_number most_ports p len k ≡ 0 → k.host < 16
+host_small p len k e =
+    let t = stepped most_ports p len k e in
+    lt_of_lt_of_le (fitting p k t.fits).host t.start.ports
+
+-- a record that is declined, and one that is taken
+pub taken_err : (low : Bool) (p : Known) (r : List ℕ) (why : Refusal) → number why ≡ step_number most_ports p (length r) (packet_in low r)
+    → numbered (number why) p ≡ taken most_ports low p r
+unfolding taken
+taken_err low p r why e = rw (ne_eqb _ _ (λ z. refused_is_not_done why (e ∙ z)), e) refl
+
+pub taken_ok : (low : Bool) (p : Known) (r : List ℕ) → 0 ≡ step_number most_ports p (length r) (packet_in low r) → took p (packet_in low r) ≡ taken most_ports low p r
+unfolding taken
+taken_ok low p r e = rw (← e)

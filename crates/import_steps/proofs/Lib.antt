@@ -1,5 +1,5 @@
-pub mod Over
 pub mod Rooms
 pub mod Fitting
+pub mod Over
 pub mod Placing
 pub mod Unique

@@ -7,8 +7,8 @@ use Rattle.words.specs.Check.{checked, sealed}
 use Rattle.trace_parts.specs.Layout.{block_len, body_len, body_size, most_mode, most_slots}
 use Rattle.trace_parts.specs.Body.{formed, block_at}
 use Rattle.trace_parts.specs.declared.body.Fields.{Fields}
+use Rattle.import_steps.specs.Taking.{Known}
 use Rattle.import_steps.specs.Laying.{is_open}
-use Rattle.import_steps.specs.declared.taking.Import.{Import}
 
 below_or : (a b : ℕ) → a ≤ b → (a < b) ⊎ (a ≡ b)
 below_or a b h = ⊎_elim (λ e. inr e) (λ l. inl l) (eq-or-lt_of_le h)
@@ -53,7 +53,7 @@ pub ends_before_check : (m n slots size : ℕ) → 1 ≤ n → n ≤ m → size 
 unfolding body_len
 ends_before_check m n slots size some most e = e ∙ rw (in_range some most)
 
-pub opened_ports : (m : ℕ) (p : Import) → is_open m p ≡ true → (1 ≤ p.state.ports) × (p.state.ports ≤ m)
+pub opened_ports : (m : ℕ) (p : Known) → is_open m p ≡ true → (1 ≤ p.state.ports) × (p.state.ports ≤ m)
 unfolding is_open
 opened_ports m p e = from_to 1 m p.state.ports (both (between 1 m p.state.ports) _ e).0
 

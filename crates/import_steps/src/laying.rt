@@ -1,105 +1,98 @@
 // The open body, in lent bytes.
-ghost use Rattle.std.specs.Prelude.{◌≡◌, ◌+◌, ◌<◌, ◌≤◌, length};
-ghost use Rattle.frames.specs.Part.{most_ports, frame_len};
+ghost use Rattle.std.specs.Prelude.{◌≡◌, ◌≤◌, length};
+ghost use Rattle.refusals.specs.Numbers.{number_of};
+ghost use Rattle.frames.specs.Part.{most_ports};
 ghost use Rattle.trace_parts.specs.Body.{block_at};
-ghost use Rattle.trace_writer.specs.Sealing.{field_bytes};
-ghost use Rattle.import_steps.specs.Taking.{took};
-ghost use Rattle.import_steps.specs.Laying.{fields_now, opened, placed, lay_number, lay_output, is_open, close_number, close_output};
+ghost use Rattle.captures.specs.Capture.{low_first, frame_of};
+ghost use Rattle.import_steps.specs.Taking.{known, took};
+ghost use Rattle.import_steps.specs.Laying.{last_block, opened, placed, lay_number, lay_output, is_open, close_number, close_output};
 
-use crate::putting::{blank_over, put_over};
-use crate::slots::{is_resent, next_slot, same_slot};
-use crate::taking::{Import, take_record};
-use captures::Packet;
+use crate::step::Step;
+use crate::taking::Import;
+use captures::{ByteOrder, Packet};
 use frames::Config;
+use long_check::ByTables;
+use refusals::Refusal;
 use trace_parts::{Layout, body_size};
+use words::seal;
 
-fn field_bytes(p: Import) -> [u8; Layout::FIELDS]
-    ensures { result ≡ field_bytes (fields_now p) }
-{
-    [
-        (p.mode % 256) as u8,
-        (p.state.initiator.0 % 256) as u8,
-        (p.state.target.0 % 256) as u8,
-    ]
-}
-
-// Where so many blocks of a body end.
-fn block_at(n: usize, slots: u16) -> usize
-    requires { (1 ≤ n) × (n ≤ most_ports) }
-    ensures { (result ≡ block_at n slots) × (result ≤ 268435456) }
-{
-    body_size(n, slots) - Layout::CHECK
-}
-
-// The body with a block for the packet's slot, the last of so many.
-fn open_block(p: Import, k: Packet, slots: u16, body: &mut [u8])
-    requires { (1 ≤ p.state.ports) × (p.state.ports ≤ most_ports) × (slots ≡ (took p k).slots) × (1 ≤ slots) × (block_at p.state.ports slots ≤ length body.old) }
-    ensures { body.new ≡ opened p k body.old }
-{
-    if same_slot(p, k) {
-        return;
+impl Step<'_> {
+    // Where the last block of the open body ends.
+    fn end(self) -> usize
+        ensures { (result ≡ block_at self.entry.before.state.ports (took (known self.entry.before) self.entry.packet).slots) × (result ≤ 268435456) }
+    {
+        body_size(self.before.state.ports, self.took().slots) - Layout::CHECK
     }
-    let n = p.state.ports;
-    let at = block_at(n, slots - 1);
-    if next_slot(p, k) {
-        blank_over(at, n * Config::LEN, body);
-        return;
-    }
-    let fields = field_bytes(p);
-    put_over(0, &fields, body);
-    blank_over(at, n * Config::LEN, body);
-}
 
-// And the packet's frame in it, unless it is resent.
-fn place(p: Import, k: Packet, slots: u16, frame: &[u8], body: &mut [u8])
-    requires { (1 ≤ p.state.ports) × (p.state.ports ≤ most_ports) × (k.host < p.state.ports) × (slots ≡ (took p k).slots) × (1 ≤ slots) × (length frame.now ≡ frame_len p.state.ports) × (block_at p.state.ports slots ≤ length body.old) }
-    ensures { body.new ≡ placed p k frame.now body.old }
-{
-    if is_resent(p, k) {
-        return;
+    // And where it starts.
+    fn last_block(self) -> usize
+        ensures { result ≡ last_block self.entry.before.state.ports (took (known self.entry.before) self.entry.packet).slots }
+    {
+        self.end() - self.before.state.ports * Config::LEN
     }
-    open_block(p, k, slots, body);
-    let n = p.state.ports;
-    let at = block_at(n, slots - 1) + k.host as usize * Config::LEN;
-    put_over(at, frame, body);
+
+    // The body with a block for the packet's slot.
+    fn open_block(self, body: &mut [u8])
+        requires { block_at self.before.state.ports (took (known self.before) self.packet).slots ≤ length body.old }
+        ensures { body.new ≡ opened (known self.entry.before) self.entry.packet body.old }
+    {
+        let p = self.before;
+        if p.same_slot(self.packet) {
+            return;
+        }
+        if !p.next_slot(self.packet) {
+            body[..Layout::FIELDS].copy_from_slice(&trace_writer::field_bytes(p.fields()));
+        }
+        body[self.last_block()..self.end()].fill(0);
+    }
+
+    // And the packet's frame in it, unless it is resent.
+    fn place(self, body: &mut [u8])
+        requires { block_at self.before.state.ports (took (known self.before) self.packet).slots ≤ length body.old }
+        ensures { body.new ≡ placed (known self.entry.before) self.entry.packet (frame_of self.entry.before.state.ports self.entry.bytes.now) body.old }
+    {
+        if self.before.is_resent(self.packet) {
+            return;
+        }
+        self.open_block(body);
+        let at = self.last_block() + self.packet.host as usize * Config::LEN;
+        body[at..at + Config::LEN].copy_from_slice(&self.bytes[Packet::FRAME..]);
+    }
 }
 
 // Lays the frame of a record into the open body, which starts with the bytes; of a body that ends with the record all is to be taken away
 // before.
-pub fn lay_record(low: bool, p: Import, bytes: &[u8], body: &mut [u8]) -> u8
-    ensures { (result ≡ lay_number most_ports low p bytes.now body.old) × (body.new ≡ lay_output most_ports low p bytes.now body.old) }
+pub fn lay_record(order: ByteOrder, p: Import, bytes: &[u8], body: &mut [u8]) -> Result<(), Refusal>
+    ensures { (number_of result ≡ lay_number most_ports (low_first order) (known p) bytes.now body.old) × (body.new ≡ lay_output most_ports (low_first order) (known p) bytes.now body.old) }
 {
-    let q = take_record(low, p, bytes);
-    if q.number != 0 {
-        return q.number;
+    let step = Step::of(order, p, bytes)?;
+    if body.len() < step.end() {
+        return Err(Refusal::OutTooShort);
     }
-    let n = p.state.ports;
-    let slots = q.slots;
-    if body.len() < block_at(n, slots) {
-        return 7;
-    }
-    let k = captures::read_packet(low, bytes);
-    place(p, k, slots, &bytes[Packet::FRAME..], body);
-    0
+    step.place(body);
+    Ok(())
 }
 
-fn is_open(p: Import) -> bool
-    ensures { result ≡ is_open most_ports p }
-{
-    trace_parts::ports_sound(p.state.ports) & trace_parts::slots_sound(p.state.ports, p.slots)
+impl Import {
+    fn is_open(self) -> bool
+        ensures { result ≡ is_open most_ports (known self) }
+    {
+        trace_parts::ports_sound(self.state.ports)
+            & trace_parts::slots_sound(self.state.ports, self.slots)
+    }
 }
 
 // Puts the check behind the open body.
-pub fn close_body(p: Import, body: &mut [u8]) -> u8
-    ensures { (result ≡ close_number most_ports p body.old) × (body.new ≡ close_output most_ports p body.old) }
+pub fn close_body(p: Import, body: &mut [u8]) -> Result<(), Refusal>
+    ensures { (number_of result ≡ close_number most_ports (known p) body.old) × (body.new ≡ close_output most_ports (known p) body.old) }
 {
-    if is_open(p) {
-        let len = body_size(p.state.ports, p.slots);
-        if body.len() < len {
-            return 7;
-        }
-        long_check::long_seal(&mut body[..len]);
-        return 0;
+    if !p.is_open() {
+        return Err(Refusal::BadTrace);
     }
-    14
+    let len = body_size(p.state.ports, p.slots);
+    if body.len() < len {
+        return Err(Refusal::OutTooShort);
+    }
+    seal::<ByTables>(&mut body[..len]);
+    Ok(())
 }

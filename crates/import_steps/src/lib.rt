@@ -1,11 +1,10 @@
 // The import of a capture, a record at a time: what is known of the records taken goes by value, the open body is lent.
 #![tactic(auto)]
 
-mod advancing;
 mod laying;
 mod listing;
-mod putting;
 mod slots;
+mod step;
 mod taking;
 
 pub use laying::{close_body, lay_record};

@@ -4,30 +4,20 @@ ghost use Rattle.import_steps.specs.Taking.{noted};
 
 use crate::taking::Import;
 
-fn note_first(p: Import, firsts: &mut [u32])
-    ensures { firsts.new ≡ noted p.bodies p.first firsts.old }
+// Puts x at the place of the last of so many bodies.
+fn note<T: Copy>(bodies: u16, x: T, list: &mut [T])
+    ensures { list.new ≡ noted bodies x list.old }
 {
-    let bodies = p.bodies as usize;
-    if (1 <= bodies) & (bodies <= firsts.len()) {
-        let at = bodies - 1;
-        firsts[at] = p.first;
+    let bodies = bodies as usize;
+    if (1 <= bodies) & (bodies <= list.len()) {
+        list[bodies - 1] = x;
     }
 }
 
-fn note_slots(p: Import, slots: &mut [u16])
-    ensures { slots.new ≡ noted p.bodies p.slots slots.old }
-{
-    let bodies = p.bodies as usize;
-    if (1 <= bodies) & (bodies <= slots.len()) {
-        let at = bodies - 1;
-        slots[at] = p.slots;
-    }
-}
-
-// Puts those of the last body begun at its place; a list that has no such place stays.
+// Puts those of the last body begun at its place; a list that has no such place stays. Two lists, as the contents' writer takes them.
 pub fn note_body(p: Import, firsts: &mut [u32], slots: &mut [u16])
     ensures { (firsts.new ≡ noted p.bodies p.first firsts.old) × (slots.new ≡ noted p.bodies p.slots slots.old) }
 {
-    note_first(p, firsts);
-    note_slots(p, slots);
+    note(p.bodies, p.first, firsts);
+    note(p.bodies, p.slots, slots);
 }

@@ -43,11 +43,11 @@ module _ (n : ℕ) (g : Cut) (out : List ℕ) where
       go true q = eqb-true g.known.number 0 q
       go false q = rw q at e
 
-  cut_left : cut_number n g out ≡ 0 → take (cut_answer n g out).length (cut_output n g out) ≡ trace_for n (all_bodies g)
+  cut_left : cut_number n g out ≡ 0 → take (cut_answer n g out).fields.length (cut_output n g out) ≡ trace_for n (all_bodies g)
   unfolding cut_answer cut_output written
   cut_left e = rw e (take_at (trace_for n (all_bodies g)) (drop (length_for n (all_bodies g)) out) (length_for n (all_bodies g)) (length_for_lem n (all_bodies g)))
 
-  cut_resent : cut_number n g out ≡ 0 → (cut_answer n g out).resent ≡ g.known.resent
+  cut_resent : cut_number n g out ≡ 0 → (cut_answer n g out).fields.resent ≡ g.known.resent
   unfolding cut_answer
   cut_resent e = rw e
 
@@ -61,7 +61,7 @@ module _ (n mode i j : ℕ) (s out : List ℕ) where
     pub records : whole_records n s ≡ true
     pub taken : whole.known.number ≡ 0
     pub trace : imported most_ports n mode i j s out ≡ trace_for n (all_bodies whole)
-    pub resent : (import_answer most_ports n mode i j s out).resent ≡ whole.known.resent
+    pub resent : (import_answer most_ports n mode i j s out).fields.resent ≡ whole.known.resent
 
   file_zero : (import_answer most_ports n mode i j s out).number ≡ 0 → file_number most_ports n mode i j s ≡ 0
   unfolding import_answer

@@ -18,8 +18,7 @@ use Rattle.ports.specs.declared.state.State.{State}
 use Rattle.trace_parts.specs.Layout.{most_slots}
 use Rattle.captures.specs.Capture.{packet_in}
 use Rattle.captures.specs.declared.packet.Packet.{Packet}
-use Rattle.import_steps.specs.Taking.{begun, same_slot, next_slot, heard, slot_begun, numbered}
-use Rattle.import_steps.specs.declared.taking.Import.{Import}
+use Rattle.import_steps.specs.Taking.{Known, begun, same_slot, next_slot, heard, slot_begun, numbered}
 use Rattle.import_steps.proofs.Fitting.{begun-some}
 use Rattle.imports.specs.Cut.{Record, Cut, open_body, all_bodies, cut_more}
 use Rattle.imports.proofs.Lists.{length_snoc}
@@ -64,7 +63,7 @@ module _ (n mode : ℕ) (st : State) where
   after_more q = refl
 
   -- no new body: there was no room, or there is a gap
-  no_next : (p : Import) (k : Packet) → begun p ≡ true → next_slot p k ≡ false → p.slots ≤ most_slots p.state.ports → (p.slots ≡ most_slots p.state.ports) ⊎ (k.slot ≢ (p.last + 1) % 2 ^ 32)
+  no_next : (p : Known) (k : Packet) → begun p ≡ true → next_slot p k ≡ false → p.slots ≤ most_slots p.state.ports → (p.slots ≡ most_slots p.state.ports) ⊎ (k.slot ≢ (p.last + 1) % 2 ^ 32)
   unfolding next_slot
   no_next p k e f most = go (ltb p.slots (most_slots p.state.ports)) refl
     where
@@ -77,7 +76,7 @@ module _ (n mode : ℕ) (st : State) where
       go false l = inl (omega (arith, ltb-false p.slots (most_slots p.state.ports) l))
 
   module _ (low : Bool) (r : Record) (g : Cut) (h : Good n g) (c : Cutting n mode st g) (small : slot_of r < 2 ^ 32) where
-    abbrev p : Import
+    abbrev p : Known
     p = g.known
 
     abbrev k : Packet

@@ -13,9 +13,8 @@ use Rattle.laws.proofs.Steps.{kept}
 use Rattle.frames.specs.Part.{most_ports}
 use Rattle.captures.specs.Capture.{is_low, packet_in, record_at, records_of}
 use Rattle.captures.specs.declared.packet.Packet.{Packet}
-use Rattle.import_steps.specs.Taking.{started, begun, same_slot, next_slot, new_body, fits, heard, slot_begun, step_number, numbered, taken}
+use Rattle.import_steps.specs.Taking.{Known, started, begun, same_slot, next_slot, new_body, fits, heard, slot_begun, step_number, numbered, taken}
 use Rattle.import_steps.specs.Laying.{fields_now}
-use Rattle.import_steps.specs.declared.taking.Import.{Import}
 use Rattle.import_steps.proofs.Fitting.{stepped}
 use Rattle.imports.specs.Cut.{Record, host_of, frame_for, block_of, Body, blocks_of, body_bytes, Cut, open_body, all_bodies, uncut, cut_more, cut}
 use Rattle.imports.specs.Import.{firsts_of, counts_of, trace_for, whole_cut, import_answer}
@@ -43,7 +42,7 @@ through-more low [] r g = refl
 through-more low (q ∷ rs) r g = through-more low rs r (cut_more most_ports low q g)
 
 -- what is known, but for the count
-abbrev quiet : Import → Import
+abbrev quiet : Known → Known
 quiet p = record { number = p.number; mode = p.mode; state = p.state; last = p.last; hosts = p.hosts; first = p.first; slots = p.slots; bodies = p.bodies; resent = 0 }
 
 -- ---- a record that is taken
@@ -70,7 +69,7 @@ step_zero low r g e = go (eqb number 0) refl
 
     go : (b : Bool) → eqb number 0 ≡ b → number ≡ 0
     go true q = eqb-true number 0 q
-    go false q = rw q at (ap (λ (p : Import). p.number) (sym (known_more low r g)) ∙ e)
+    go false q = rw q at (ap (λ (p : Known). p.number) (sym (known_more low r g)) ∙ e)
 
 -- ---- two cuts of the same bytes
 
@@ -114,13 +113,13 @@ module _ (n : ℕ) (g d : Cut) (a : Alike n g d) where
   open_bytes = rw (a.fields, more_blocks)
 
   same_begun : begun g.known ≡ begun d.known
-  same_begun = ap (λ (p : Import). begun p) a.known
+  same_begun = ap (λ (p : Known). begun p) a.known
 
   all_same : Same n (all_bodies g) (all_bodies d)
   all_same = go (begun g.known) refl
     where
       go : (b : Bool) → begun g.known ≡ b → Same n (all_bodies g) (all_bodies d)
-      go true e = rw (all_open g e, all_open d (sym same_begun ∙ e)) (same_more n g.bodies d.bodies (open_body g) (open_body d) a.bodies (ap (λ (p : Import). p.first) a.known) more_slots open_bytes)
+      go true e = rw (all_open g e, all_open d (sym same_begun ∙ e)) (same_more n g.bodies d.bodies (open_body g) (open_body d) a.bodies (ap (λ (p : Known). p.first) a.known) more_slots open_bytes)
       go false e = rw (all_shut g e, all_shut d (sym same_begun ∙ e)) a.bodies
 
   module _ (low : Bool) (r : Record) (good : Good n g) (other : Good n d) where
@@ -128,12 +127,12 @@ module _ (n : ℕ) (g d : Cut) (a : Alike n g d) where
     packet = packet_in low r
 
     heard_alike : (h : ℕ) → heard_in g.records h ≡ heard_in d.records h
-    heard_alike h = sym (good.held.heard h) ∙ ap (λ (p : Import). has p.hosts h) a.known ∙ other.held.heard h
+    heard_alike h = sym (good.held.heard h) ∙ ap (λ (p : Known). has p.hosts h) a.known ∙ other.held.heard h
 
     alike_same : Alike n (same_cut g r packet) (same_cut d r packet)
     unfolding heard
     alike_same = record {
-      known = ap (λ (p : Import). quiet (heard p packet)) a.known;
+      known = ap (λ (p : Known). quiet (heard p packet)) a.known;
       bodies = a.bodies;
       fields = a.fields;
       many = a.many;
@@ -143,23 +142,23 @@ module _ (n : ℕ) (g d : Cut) (a : Alike n g d) where
 
     alike_next : Alike n (next_cut g r packet) (next_cut d r packet)
     unfolding slot_begun
-    alike_next = record { known = ap (λ (p : Import). quiet (next_of p packet)) a.known; bodies = a.bodies; fields = a.fields; many = more_slots; blocks = more_blocks; frames = λ h. refl }
+    alike_next = record { known = ap (λ (p : Known). quiet (next_of p packet)) a.known; bodies = a.bodies; fields = a.fields; many = more_slots; blocks = more_blocks; frames = λ h. refl }
 
     alike_new : Alike n (new_cut g r packet) (new_cut d r packet)
     unfolding slot_begun
-    alike_new = record { known = ap (λ (p : Import). quiet (new_of p packet)) a.known; bodies = all_same; fields = ap (λ (p : Import). fields_now p) a.known; many = refl; blocks = refl; frames = λ h. refl }
+    alike_new = record { known = ap (λ (p : Known). quiet (new_of p packet)) a.known; bodies = all_same; fields = ap (λ (p : Known). fields_now p) a.known; many = refl; blocks = refl; frames = λ h. refl }
 
     same_number : step_number most_ports g.known (length r) packet ≡ step_number most_ports d.known (length r) packet
     unfolding step_number fits new_body same_slot next_slot
-    same_number = ap (λ (p : Import). step_number most_ports p (length r) packet) a.known
+    same_number = ap (λ (p : Known). step_number most_ports p (length r) packet) a.known
 
     same_same : same_slot g.known packet ≡ same_slot d.known packet
     unfolding same_slot
-    same_same = ap (λ (p : Import). same_slot p packet) a.known
+    same_same = ap (λ (p : Known). same_slot p packet) a.known
 
     same_next : next_slot g.known packet ≡ next_slot d.known packet
     unfolding next_slot
-    same_next = ap (λ (p : Import). next_slot p packet) a.known
+    same_next = ap (λ (p : Known). next_slot p packet) a.known
 
     -- a record more in both
     both_more : step_number most_ports g.known (length r) packet ≡ 0 → Alike n (cut_more most_ports low r g) (cut_more most_ports low r d)

@@ -12,8 +12,7 @@ use Rattle.laws.proofs.Steps.{kept}
 use Rattle.frames.specs.Part.{most_ports}
 use Rattle.captures.specs.Capture.{is_low, packet_in, record_at, records_of}
 use Rattle.captures.specs.declared.packet.Packet.{Packet}
-use Rattle.import_steps.specs.Taking.{started, begun, same_slot, heard, slot_begun, numbered}
-use Rattle.import_steps.specs.declared.taking.Import.{Import}
+use Rattle.import_steps.specs.Taking.{Known, started, begun, same_slot, heard, slot_begun, numbered}
 use Rattle.imports.specs.Cut.{Record, host_of, Cut, uncut, cut_more, cut}
 use Rattle.imports.specs.Import.{whole_cut, import_answer}
 use Rattle.imports.proofs.Blocks.{heard_in, heard-more}
@@ -87,7 +86,7 @@ module _ (n : ℕ) (s : List ℕ) where
           → cond (has g.known.hosts (packet_in low (record_at n s i)).host) ((g.known.resent + 1) % 2 ^ 32) g.known.resent ≡ resent_in n s (suc i) % 2 ^ 32
       same x e = rw (count_more i, same_resent low i g good x.in_slots e) (go (has g.known.hosts (packet_in low (record_at n s i)).host) g.known.resent (resent_in n s i) x.count)
 
-  counted : (low : Bool) (p : Import) → begun p ≡ false → p.resent ≡ 0 → Good n (uncut p) → (i : ℕ) → Good n (cut most_ports low n s p i) × ((cut most_ports low n s p i).known.number ≡ 0 → Counted i (cut most_ports low n s p i))
+  counted : (low : Bool) (p : Known) → begun p ≡ false → p.resent ≡ 0 → Good n (uncut p) → (i : ℕ) → Good n (cut most_ports low n s p i) × ((cut most_ports low n s p i).known.number ≡ 0 → Counted i (cut most_ports low n s p i))
   unfolding cut resent_in steps
   counted low p shut none first i =
       kept _ _ (λ i g. Good n g × (g.known.number ≡ 0 → Counted i g)) i
@@ -99,7 +98,7 @@ module _ (n : ℕ) (s : List ℕ) where
 
 -- the frames resent that the call answers are the records resent, modulo 2 ^ 32
 pub resent_counted : (n mode i j : ℕ) (s out : List ℕ) → (import_answer most_ports n mode i j s out).number ≡ 0
-    → (import_answer most_ports n mode i j s out).resent ≡ resent_in n s (records_of n s) % 2 ^ 32
+    → (import_answer most_ports n mode i j s out).fields.resent ≡ resent_in n s (records_of n s) % 2 ^ 32
 unfolding whole_cut started cut steps
 resent_counted n mode i j s out e =
     let d = done n mode i j s out e in

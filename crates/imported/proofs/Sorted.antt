@@ -16,8 +16,7 @@ use Rattle.laws.proofs.Tests.{both}
 use Rattle.frames.specs.Part.{most_ports}
 use Rattle.captures.specs.Capture.{packet_in, record_at}
 use Rattle.captures.specs.declared.packet.Packet.{Packet}
-use Rattle.import_steps.specs.Taking.{begun, same_slot, next_slot, heard, slot_begun, numbered}
-use Rattle.import_steps.specs.declared.taking.Import.{Import}
+use Rattle.import_steps.specs.Taking.{Known, begun, same_slot, next_slot, heard, slot_begun, numbered}
 use Rattle.import_steps.proofs.Fitting.{begun-some}
 use Rattle.imports.specs.Cut.{Record, Body, Cut, open_body, all_bodies, uncut, cut_more, cut}
 use Rattle.imports.proofs.Lists.{length_snoc}
@@ -100,7 +99,7 @@ module _ (n : ℕ) (s : List ℕ) where
     abbrev r : Record
     r = record_at n s i
 
-    abbrev p : Import
+    abbrev p : Known
     p = g.known
 
     abbrev k : Packet
@@ -196,10 +195,10 @@ module _ (n : ℕ) (s : List ℕ) where
       (λ ok a e _. next low i g (h ok.number) a e)
       (λ ok a _ _. new low i g (h ok.number) a)
 
-  pub sorted_none : (p : Import) → begun p ≡ false → Sorted n s 0 (uncut p)
+  pub sorted_none : (p : Known) → begun p ≡ false → Sorted n s 0 (uncut p)
   unfolding slots_in slots_of of_slot steps
   sorted_none p e = record { none = λ _. e; last = λ j x. absurd (omega (arith, x)); many = rw (all_shut (uncut p) e); each = λ q. rw (all_shut (uncut p) e) }
 
-  pub sorted : (low : Bool) (p : Import) → begun p ≡ false → (i : ℕ) → (cut most_ports low n s p i).known.number ≡ 0 → Sorted n s i (cut most_ports low n s p i)
+  pub sorted : (low : Bool) (p : Known) → begun p ≡ false → (i : ℕ) → (cut most_ports low n s p i).known.number ≡ 0 → Sorted n s i (cut most_ports low n s p i)
   unfolding cut
   sorted low p e i = kept _ _ (λ i g. g.known.number ≡ 0 → Sorted n s i g) i (λ i g l h. sorted_more low i g h) (λ _. sorted_none p e)

@@ -13,7 +13,7 @@ use Rattle.imports.specs.Import.{import_answer, import_output}
 
 -- the first bytes of the output, as many as the call answers
 unfoldable pub imported : ℕ → ℕ → ℕ → ℕ → ℕ → List ℕ → List ℕ → List ℕ
-imported m n mode i j s out = take (import_answer m n mode i j s out).length (import_output m n mode i j s out)
+imported m n mode i j s out = take (import_answer m n mode i j s out).fields.length (import_output m n mode i j s out)
 
 -- how many slots the bodies before body b have
 unfoldable pub slots_before : List ℕ → ℕ → ℕ

@@ -1,6 +1,6 @@
 -- A record more, case by case: it is declined, or it is of the open slot, of the next slot, or of a new body.
 use mathlib.Core.Path.{◌≡◌, refl, ◌∙◌}
-use mathlib.Core.Bool.{Bool, true, false, cond}
+use mathlib.Core.Bool.{Bool, true, false}
 use mathlib.Core.List.{[], ◌∷◌, ◌++◌}
 use Prim.Native.Nat.{ℕ, ◌+◌}
 use lib.Dec.{eqb}
@@ -9,16 +9,15 @@ use borrow.Author.Tests.{eqb-true, eqb-false, eq-eqb}
 use Rattle.frames.specs.Part.{most_ports}
 use Rattle.captures.specs.Capture.{packet_in}
 use Rattle.captures.specs.declared.packet.Packet.{Packet}
-use Rattle.import_steps.specs.Taking.{same_slot, next_slot, heard, slot_begun, took, step_number, numbered, taken}
+use Rattle.import_steps.specs.Taking.{Known, same_slot, next_slot, heard, slot_begun, took, step_number, numbered, taken}
 use Rattle.import_steps.specs.Laying.{fields_now}
-use Rattle.import_steps.specs.declared.taking.Import.{Import}
-use Rattle.import_steps.proofs.Fitting.{Taken, stepped}
+use Rattle.import_steps.proofs.Fitting.{Taken, stepped, took_number}
 use Rattle.imports.specs.Cut.{Record, Cut, all_bodies, cut_more}
 
-abbrev pub next_of : Import → Packet → Import
+abbrev pub next_of : Known → Packet → Known
 next_of p k = slot_begun p k p.first (p.slots + 1) p.bodies
 
-abbrev pub new_of : Import → Packet → Import
+abbrev pub new_of : Known → Packet → Known
 new_of p k = slot_begun p k k.slot 1 (p.bodies + 1)
 
 abbrev pub declined_cut : Cut → ℕ → Cut
@@ -34,7 +33,7 @@ abbrev pub new_cut : Cut → Record → Packet → Cut
 new_cut g r k = record { known = new_of g.known k; bodies = all_bodies g; fields = fields_now g.known; slots = []; records = r ∷ [] }
 
 module _ (low : Bool) (r : Record) (g : Cut) (P : Cut → Type 0) where
-  abbrev p : Import
+  abbrev p : Known
   p = g.known
 
   abbrev k : Packet
@@ -58,15 +57,6 @@ module _ (low : Bool) (r : Record) (g : Cut) (P : Cut → Type 0) where
   unfolding took
   took_new b c = rw (b, c)
 
-  kept-number : (took p k).number ≡ p.number
-  unfolding took heard slot_begun
-  kept-number = go (same_slot p k) (next_slot p k)
-    where
-      go : (a b : Bool) → (cond a (heard p k) (cond b (next_of p k) (new_of p k))).number ≡ p.number
-      go true b = refl
-      go false true = refl
-      go false false = refl
-
   pub cases : ((number ≡ 0 → ⊥) → P (declined_cut g number))
       → (Ok → same_slot p k ≡ true → P (same_cut g r k))
       → (Ok → same_slot p k ≡ false → next_slot p k ≡ true → P (next_cut g r k))
@@ -76,7 +66,7 @@ module _ (low : Bool) (r : Record) (g : Cut) (P : Cut → Type 0) where
   cases declined same next new = go (eqb number 0) refl
     where
       zero : Ok → eqb (took p k).number 0 ≡ true
-      zero ok = eq-eqb _ _ (kept-number ∙ ok.number)
+      zero ok = eq-eqb _ _ (took_number p k ∙ ok.number)
 
       next_case : (b : Bool) → next_slot p k ≡ b → Ok → eqb number 0 ≡ true → same_slot p k ≡ false → P (cut_more most_ports low r g)
       next_case true c ok a b = rw (a, zero ok, b, c, took-next b c) (next ok b c)

@@ -1,87 +1,97 @@
 -- The ends of the call on a whole file, before its records: a number of what the caller gives, and the file's form.
+use Prim.Native.Nat.{◌+◌, ◌*◌, ◌≤◌}
+use native.Mathlib.Nat.{div-mul-le_self}
 use mathlib.Core.Path.{◌≡◌, refl, sym, ap, ◌∙◌}
 use mathlib.Core.Bool.{Bool, true, false, ◌&&◌}
 use mathlib.Core.List.{List}
-use Prim.Native.Nat.{ℕ, ◌+◌, ◌*◌, ◌-◌, ◌/◌, ◌%◌, ◌≤◌}
-use native.Mathlib.Nat.{div-mul-le_self}
+use Prim.Native.Nat.{ℕ, ◌-◌, ◌/◌, ◌%◌}
 use native.Mathlib.Omega.{arith}
 use lib.ListN.{length}
 use borrow.Author.Tests.{eq-eqb, ne_eqb}
 use Rattle.laws.proofs.Tests.{every}
+use Rattle.std.specs.Prelude.{Ok, Err}
+use Rattle.refusals.specs.Numbers.{number, Answer, answer_of}
+use Rattle.refusals.specs.declared.Refusal.{Refusal}
+use Rattle.refusals.proofs.Unique.{refused_is_not_done}
 use Rattle.frames.specs.Part.{most_ports}
-use Rattle.captures.specs.Capture.{header_len, record_len, is_low, header_sound, header_read, records_of, whole_records}
-use Rattle.captures.specs.declared.header.HeaderRead.{HeaderRead}
-use Rattle.import_steps.specs.Taking.{start_number, started}
-use Rattle.import_steps.specs.declared.taking.Import.{Import}
+use Rattle.captures.specs.Capture.{header_len, record_len, low_first, is_low, header_sound, header_read, records_of, whole_records}
+use Rattle.captures.specs.declared.number.ByteOrder.{ByteOrder}
+use Rattle.captures.specs.declared.number.ByteOrder.TheVariants.{HighFirst}
+use Rattle.captures.proofs.Headers.{low_of_order}
+use Rattle.import_steps.specs.Taking.{Known, at_start, numbered, start_number, started}
 use Rattle.imports.specs.Cut.{Cut, cut}
 use Rattle.imports.specs.Import.{refused, cut_answer, cut_output, file_number, whole_cut, import_answer, import_output}
 use Rattle.imports.specs.Passes.{Fresh}
-use Rattle.imports.specs.declared.importing.Imported.{Imported}
+use Rattle.imports.specs.declared.answer.Imported.{Imported}
 
-pub fresh_start : (n mode i j : ℕ) (p : Import) → p ≡ started most_ports n mode i j → p.number ≡ 0 → Fresh most_ports p
+pub fresh_start : (n mode i j : ℕ) (p : Known) → p ≡ started most_ports n mode i j → p.number ≡ 0 → Fresh most_ports p
 unfolding started
 fresh_start n mode i j p e zero = record { number = zero; is = rw e }
 
-pub start_ports : (n mode i j : ℕ) (p : Import) → p ≡ started most_ports n mode i j → p.state.ports ≡ n
+pub start_ports : (n mode i j : ℕ) (p : Known) → p ≡ started most_ports n mode i j → p.state.ports ≡ n
 unfolding started
-start_ports n mode i j p e = ap (λ (q : Import). q.state.ports) e
+start_ports n mode i j p e = ap (λ (q : Known). q.state.ports) e
 
-pub start_number_lem : (n mode i j : ℕ) (p : Import) → p ≡ started most_ports n mode i j → p.number ≡ start_number most_ports n mode i j
+pub start_number_lem : (n mode i j : ℕ) (p : Known) → p ≡ started most_ports n mode i j → p.number ≡ start_number most_ports n mode i j
 unfolding started
-start_number_lem n mode i j p e = ap (λ (q : Import). q.number) e
+start_number_lem n mode i j p e = ap (λ (q : Known). q.number) e
+
+pub start_refused : (n mode i j : ℕ) (why : Refusal) → numbered (number why) (at_start n mode i j) ≡ started most_ports n mode i j → number why ≡ start_number most_ports n mode i j
+unfolding numbered started
+start_refused n mode i j why e = ap (λ (q : Known). q.number) e
 
 -- what the header's reading says
-pub header_unsound : (s : List ℕ) (r : HeaderRead) → r ≡ header_read s → (r.number ≡ 0 → ⊥) → header_sound s ≡ false
-unfolding header_read
-header_unsound s r e other = go (header_sound s) refl
-  where
-    go : (b : Bool) → header_sound s ≡ b → header_sound s ≡ false
-    go true q = absurd (other (ap (λ (x : HeaderRead). x.number) e ∙ rw q))
-    go false q = q
-
-pub record Read (s : List ℕ) (r : HeaderRead) : Type 0 where
+pub record Read (s : List ℕ) (order : ByteOrder) : Type 0 where
   pub sound : header_sound s ≡ true
-  pub low : r.low ≡ is_low s
+  pub low : low_first order ≡ is_low s
 
-pub header_sound_lem : (s : List ℕ) (r : HeaderRead) → r ≡ header_read s → r.number ≡ 0 → Read s r
+pub read_sound : (s : List ℕ) (order : ByteOrder) → answer_of HighFirst (Ok order) ≡ header_read s → Read s order
 unfolding header_read
-header_sound_lem s r e zero = go (header_sound s) refl
+read_sound s order e = go (header_sound s) refl
   where
-    go : (b : Bool) → header_sound s ≡ b → Read s r
-    go true q = record { sound = q; low = ap (λ (x : HeaderRead). x.low) e ∙ rw q }
-    go false q = let no18 : ◌≡◌ {A = ℕ} 18 0 = sym (ap (λ (x : HeaderRead). x.number) e ∙ rw q) ∙ zero in absurd (omega arith)
+    go : (b : Bool) → header_sound s ≡ b → Read s order
+    go true q = record { sound = q; low = ap (λ (x : Answer ByteOrder). low_first x.fields) e ∙ rw q (low_of_order (is_low s)) }
+    go false q = let no18 : ◌≡◌ {A = ℕ} 0 18 = ap (λ (x : Answer ByteOrder). x.number) e ∙ rw q in absurd (omega arith)
+
+pub read_unsound : (s : List ℕ) (why : Refusal) → answer_of HighFirst (Err why) ≡ header_read s → (header_sound s ≡ false) × (number why ≡ 18)
+unfolding header_read
+read_unsound s why e = go (header_sound s) refl
+  where
+    go : (b : Bool) → header_sound s ≡ b → (header_sound s ≡ false) × (number why ≡ 18)
+    go true q = absurd (refused_is_not_done why (ap (λ (x : Answer ByteOrder). x.number) e ∙ rw q))
+    go false q = (q, ap (λ (x : Answer ByteOrder). x.number) e ∙ rw q)
 
 module _ (n mode i j : ℕ) (s out : List ℕ) where
-  abbrev Ends : Imported → List ℕ → Type 0
+  abbrev Ends : Answer Imported → List ℕ → Type 0
   Ends x left = (x ≡ import_answer most_ports n mode i j s out) × (left ≡ import_output most_ports n mode i j s out)
 
-  declined : (v : ℕ) (x : Imported) → (v ≡ 0 → ⊥) → file_number most_ports n mode i j s ≡ v → x ≡ refused v → Ends x out
+  declined : (v : ℕ) (x : Answer Imported) → (v ≡ 0 → ⊥) → file_number most_ports n mode i j s ≡ v → x ≡ refused v → Ends x out
   unfolding import_answer import_output
   declined v x other is e = rw (is, ne_eqb v 0 other) (e, refl)
 
   -- 1, 2 and 5
-  pub start-declined : (v : ℕ) (x : Imported) → (v ≡ 0 → ⊥) → v ≡ start_number most_ports n mode i j → x ≡ refused v → Ends x out
+  pub start-declined : (v : ℕ) (x : Answer Imported) → (v ≡ 0 → ⊥) → v ≡ start_number most_ports n mode i j → x ≡ refused v → Ends x out
   unfolding file_number
   start-declined v x other is e = declined v x other (rw (← is, ne_eqb v 0 other)) e
 
   -- 18
-  pub file_declined : (x : Imported) → start_number most_ports n mode i j ≡ 0 → header_sound s && whole_records n s ≡ false → x ≡ refused 18 → Ends x out
+  pub file_declined : (x : Answer Imported) → start_number most_ports n mode i j ≡ 0 → header_sound s && whole_records n s ≡ false → x ≡ refused 18 → Ends x out
   unfolding file_number
   file_declined x zero unsound e = declined 18 x (λ q. omega arith) (rw (zero, unsound)) e
 
   -- the records decide
-  pub records_decide : (x : Imported) (left : List ℕ) → start_number most_ports n mode i j ≡ 0 → header_sound s && whole_records n s ≡ true
+  pub records_decide : (x : Answer Imported) (left : List ℕ) → start_number most_ports n mode i j ≡ 0 → header_sound s && whole_records n s ≡ true
       → x ≡ cut_answer n (whole_cut most_ports n mode i j s) out → left ≡ cut_output n (whole_cut most_ports n mode i j s) out → Ends x left
   unfolding import_answer import_output file_number
   records_decide x left zero sound e l = rw (zero, sound) (e, l)
 
-  whole_is : (p : Import) (low : Bool) (count : ℕ) → p ≡ started most_ports n mode i j → low ≡ is_low s → count ≡ records_of n s
+  whole_is : (p : Known) (low : Bool) (count : ℕ) → p ≡ started most_ports n mode i j → low ≡ is_low s → count ≡ records_of n s
       → cut most_ports low p.state.ports s p count ≡ whole_cut most_ports n mode i j s
   unfolding whole_cut started
   whole_is p low count e l c = rw (e, l, c)
 
-  pub records_answer : (p : Import) (low : Bool) (count : ℕ) → p ≡ started most_ports n mode i j → low ≡ is_low s → count ≡ records_of n s → p.number ≡ 0
-      → header_sound s ≡ true → whole_records n s ≡ true → (x : Imported) (left : List ℕ)
+  pub records_answer : (p : Known) (low : Bool) (count : ℕ) → p ≡ started most_ports n mode i j → low ≡ is_low s → count ≡ records_of n s → p.number ≡ 0
+      → header_sound s ≡ true → whole_records n s ≡ true → (x : Answer Imported) (left : List ℕ)
       → x ≡ cut_answer p.state.ports (cut most_ports low p.state.ports s p count) out → left ≡ cut_output p.state.ports (cut most_ports low p.state.ports s p count) out → Ends x left
   records_answer p low count e l c zero sound whole x left a b =
       let ports = start_ports n mode i j p e in

@@ -18,14 +18,15 @@ use Rattle.ports.specs.declared.state.State.{State}
 use Rattle.lcf.specs.Advance.{advance}
 use Rattle.trace_parts.specs.Layout.{block_len, most_slots, most_bodies}
 use Rattle.trace_parts.specs.Body.{formed}
-use Rattle.captures.specs.Capture.{record_len, packet_in, record_at}
-use Rattle.captures.specs.declared.packet.Packet.{Packet}
-use Rattle.import_steps.specs.Taking.{start_number, started, begun, same_slot, next_slot, heard, slot_begun, step_number, numbered}
-use Rattle.import_steps.specs.Laying.{fields_now}
 use Rattle.import_steps.specs.declared.taking.Import.{Import}
+use Rattle.captures.specs.declared.number.ByteOrder.{ByteOrder}
+use Rattle.captures.specs.Capture.{low_first, records_of, record_len, packet_in, record_at}
+use Rattle.captures.specs.declared.packet.Packet.{Packet}
+use Rattle.import_steps.specs.Taking.{Known, known, start_number, started, begun, same_slot, next_slot, heard, slot_begun, step_number, numbered}
+use Rattle.import_steps.specs.Laying.{fields_now}
 use Rattle.import_steps.proofs.Fitting.{Startable, startable, Taken, fitting, next-room, is_new, begun-some}
 use Rattle.imports.specs.Cut.{Record, Body, joined, blocks_of, joined_bytes, Cut, open_body, all_bodies, uncut, cut_more, cut}
-use Rattle.imports.specs.Passes.{Fresh}
+use Rattle.imports.specs.Passes.{Fresh, cut_of}
 use Rattle.imports.proofs.Lists.{length_snoc}
 use Rattle.imports.proofs.Blocks.{heard_in, framed_none}
 use Rattle.imports.proofs.Bodies.{SoundBodies, long_more, open_length, open_sound, sound_more}
@@ -88,7 +89,7 @@ moved n st e some l = record { ports = e; initiator = rw e (mod-lt (st.initiator
     go true = mod-lt (st.target.0 + 1) some
     go false = l
 
-form_now : (n : ℕ) (p : Import) → Startable most_ports n p.mode p.state.initiator.0 p.state.target.0 → formed n (fields_now p) ≡ true
+form_now : (n : ℕ) (p : Known) → Startable most_ports n p.mode p.state.initiator.0 p.state.target.0 → formed n (fields_now p) ≡ true
 unfolding formed
 form_now n p s = every s.known (every (lt-ltb _ _ s.initiator) (lt-ltb _ _ s.target))
 
@@ -100,14 +101,14 @@ no_blocks : (n : ℕ) → length (blocks_of n []) ≡ 0 * block_len n
 unfolding joined steps
 no_blocks n = sym (zero-mul (block_len n))
 
-pub next-begun : (p : Import) (k : Packet) → next_slot p k ≡ true → begun p ≡ true
+pub next-begun : (p : Known) (k : Packet) → next_slot p k ≡ true → begun p ≡ true
 unfolding next_slot
 next-begun p k e = (both (begun p) _ e).0
 
 -- ---- record after record
 
 module _ (n : ℕ) (low : Bool) (r : Record) (g : Cut) (h : Good n g) where
-  abbrev p : Import
+  abbrev p : Known
   p = g.known
 
   abbrev k : Packet
@@ -227,15 +228,15 @@ module _ (n : ℕ) (low : Bool) (r : Record) (g : Cut) (h : Good n g) where
   good_more = cases low r g (Good n) (λ _. declined) same_good (λ ok _ b. next_good ok b) new_good
 
 -- before the first
-pub good_none : (p : Import) → Fresh most_ports p → Good p.state.ports (uncut p)
+pub good_none : (p : Known) → Fresh most_ports p → Good p.state.ports (uncut p)
 unfolding started all_bodies joined steps heard_in
 good_none p f =
     let n = p.state.ports in
-    let slots : p.slots ≡ 0 = ap (λ (x : Import). x.slots) f.is in
-    let bodies : p.bodies ≡ 0 = ap (λ (x : Import). x.bodies) f.is in
-    let due : p.state.due ≡ 0 = ap (λ (x : Import). x.state.due) f.is in
-    let hosts : p.hosts ≡ 0 = ap (λ (x : Import). x.hosts) f.is in
-    let number : start_number most_ports n p.mode p.state.initiator.0 p.state.target.0 ≡ 0 = sym (ap (λ (x : Import). x.number) f.is) ∙ f.number in
+    let slots : p.slots ≡ 0 = ap (λ (x : Known). x.slots) f.is in
+    let bodies : p.bodies ≡ 0 = ap (λ (x : Known). x.bodies) f.is in
+    let due : p.state.due ≡ 0 = ap (λ (x : Known). x.state.due) f.is in
+    let hosts : p.hosts ≡ 0 = ap (λ (x : Known). x.hosts) f.is in
+    let number : start_number most_ports n p.mode p.state.initiator.0 p.state.target.0 ≡ 0 = sym (ap (λ (x : Known). x.number) f.is) ∙ f.number in
     let start = startable most_ports n p.mode p.state.initiator.0 p.state.target.0 number in
     let shut : begun p ≡ false = ap (λ (z : ℕ). ltb 0 z) slots in
     let all = all_shut (uncut p) shut in
@@ -256,6 +257,9 @@ good_none p f =
       none = λ _. bodies;
     }
 
-pub good : (low : Bool) (s : List ℕ) (p : Import) → Fresh most_ports p → (i : ℕ) → Good p.state.ports (cut most_ports low p.state.ports s p i)
+pub good : (low : Bool) (s : List ℕ) (p : Known) → Fresh most_ports p → (i : ℕ) → Good p.state.ports (cut most_ports low p.state.ports s p i)
 unfolding cut
 good low s p f i = kept _ _ (λ _ g. Good p.state.ports g) i (λ k g l h. good_more p.state.ports low (record_at p.state.ports s k) g h) (good_none p f)
+
+pub good_of : (order : ByteOrder) (start : Import) (s : List ℕ) → Fresh most_ports (known start) → Good start.state.ports (cut_of order start s)
+good_of order start s f = good (low_first order) s (known start) f (records_of start.state.ports s)

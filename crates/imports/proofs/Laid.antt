@@ -21,9 +21,8 @@ use Rattle.trace_parts.specs.Body.{block_at}
 use Rattle.trace_writer.specs.Sealing.{body_of}
 use Rattle.captures.specs.Capture.{packet_in, frame_of}
 use Rattle.captures.specs.declared.packet.Packet.{Packet}
-use Rattle.import_steps.specs.Taking.{numbered, begun, same_slot, next_slot, heard, slot_begun, ends_body}
+use Rattle.import_steps.specs.Taking.{Known, numbered, begun, same_slot, next_slot, heard, slot_begun, ends_body}
 use Rattle.import_steps.specs.Laying.{is_open, open_len, close_output}
-use Rattle.import_steps.specs.declared.taking.Import.{Import}
 use Rattle.import_steps.proofs.Fitting.{Taken, begun-some}
 use Rattle.imports.specs.Cut.{Record, Body, body_bytes, joined_bytes, Cut, open_body, all_bodies, cut_more}
 use Rattle.imports.specs.Passes.{from, ended_in, ended_at}
@@ -46,7 +45,7 @@ pub record Laid (n : ℕ) (g : Cut) (o s : List ℕ) (start : ℕ) : Type 0 wher
 pub from-behind : (at : ℕ) (f : List ℕ → List ℕ) (p q : List ℕ) → length p ≡ at → from at f (p ++ q) ≡ p ++ f q
 from-behind at f p q e = rw (take_at p q at e, drop_at p q at e)
 
-pub closed_behind : (p : Import) (b t : List ℕ) → is_open most_ports p ≡ true → length b ≡ block_at p.state.ports p.slots → 2 ≤ length t
+pub closed_behind : (p : Known) (b t : List ℕ) → is_open most_ports p ≡ true → length b ≡ block_at p.state.ports p.slots → 2 ≤ length t
     → close_output most_ports p (b ++ t) ≡ checked b ++ drop 2 t
 unfolding writer_number room_number written body_len
 closed_behind p b t o long two =
@@ -105,14 +104,14 @@ shut_laid n g o s start h l room e =
 -- ---- a record more
 
 -- the bytes with a record more, after which q is known
-abbrev laid_to : Import → Import → Packet → List ℕ → ℕ → List ℕ → List ℕ
+abbrev laid_to : Known → Known → Packet → List ℕ → ℕ → List ℕ → List ℕ
 laid_to p q k frame start s = from (ended_at p q start) (laid_for p q k frame) (ended_in most_ports p q start s)
 
-stays_open : (p q : Import) → q.bodies ≡ p.bodies → ends_body p q ≡ false
+stays_open : (p q : Known) → q.bodies ≡ p.bodies → ends_body p q ≡ false
 stays_open p q e = rw (eq-eqb _ _ e) (and-false (begun p))
 
 module _ (n : ℕ) (low : Bool) (r : Record) (g : Cut) (h : Good n g) (o s : List ℕ) (start : ℕ) (l : Laid n g o s start) where
-  abbrev p : Import
+  abbrev p : Known
   p = g.known
 
   abbrev k : Packet
@@ -135,12 +134,12 @@ module _ (n : ℕ) (low : Bool) (r : Record) (g : Cut) (h : Good n g) (o s : Lis
   bytes e = l.is ∙ ap (λ (z : List ℕ). z ++ rest) (laid_open n g e) ∙ append_assoc j (open_bytes n g) rest
 
   -- the open body stays: what laying makes of it
-  stays_laid : (q : Import) → q.bodies ≡ p.bodies → begun p ≡ true → (b : List ℕ) → laid_for p q k frame (open_bytes n g ++ rest) ≡ b → laid_to p q k frame start s ≡ j ++ b
+  stays_laid : (q : Known) → q.bodies ≡ p.bodies → begun p ≡ true → (b : List ℕ) → laid_for p q k frame (open_bytes n g ++ rest) ≡ b → laid_to p q k frame start s ≡ j ++ b
   unfolding ended_in ended_at
   stays_laid q same e b is =
       rw (stays_open p q same, bytes e, from-behind start (laid_for p q k frame) j (open_bytes n g ++ rest) (sym l.at), is)
 
-  stays_at : (q : Import) → q.bodies ≡ p.bodies → ended_at p q start ≡ start
+  stays_at : (q : Known) → q.bodies ≡ p.bodies → ended_at p q start ≡ start
   unfolding ended_at
   stays_at q same = rw (stays_open p q same)
 
@@ -195,7 +194,7 @@ module _ (n : ℕ) (low : Bool) (r : Record) (g : Cut) (h : Good n g) (o s : Lis
       omega (arith, length-append j (open_bytes n g), ap length (laid_open n g e))
 
   -- the bodies before a new one: all, and what was behind them
-  ended_laid : (q : Import) → q.bodies ≡ p.bodies + 1 → length all ≤ length o → (ended_in most_ports p q start s ≡ all ++ drop (length all) o) × (ended_at p q start ≡ length all)
+  ended_laid : (q : Known) → q.bodies ≡ p.bodies + 1 → length all ≤ length o → (ended_in most_ports p q start s ≡ all ++ drop (length all) o) × (ended_at p q start ≡ length all)
   unfolding ended_in ended_at
   ended_laid q more room = go (begun p) refl
     where

@@ -10,6 +10,7 @@ pub mod Open
 pub mod Laid
 pub mod Along
 pub mod Lent
+pub mod Pieces
 pub mod Whole
 pub mod Files
 pub mod Unique

@@ -18,9 +18,8 @@ use Rattle.trace_parts.specs.Body.{block_at}
 use Rattle.trace_writer.specs.Sealing.{field_bytes}
 use Rattle.captures.specs.Capture.{record_len, packet_in, frame_of}
 use Rattle.captures.specs.declared.packet.Packet.{Packet}
-use Rattle.import_steps.specs.Taking.{begun, same_slot, next_slot, heard, slot_begun, taken}
+use Rattle.import_steps.specs.Taking.{Known, begun, same_slot, next_slot, heard, slot_begun, taken}
 use Rattle.import_steps.specs.Laying.{placed, lay_number, lay_output, fields_now}
-use Rattle.import_steps.specs.declared.taking.Import.{Import}
 use Rattle.import_steps.proofs.Fitting.{Taken, fitting, begun-some}
 use Rattle.imports.specs.Cut.{Record, block_of, blocks_of, Cut}
 use Rattle.imports.proofs.Lists.{joined_none, joined_map}
@@ -44,10 +43,10 @@ open_long n g h e =
     length-append (field_bytes g.fields) _ ∙ rw (length_fields g, long_more n g.slots g.records h.long h.held.framed) (ap (λ (z : ℕ). 3 + z * block_len n) (sym (h.slots e)))
 
 -- what laying a record does to a body that has room for it
-unfoldable pub laid_for : Import → Import → Packet → List ℕ → List ℕ → List ℕ
+unfoldable pub laid_for : Known → Known → Packet → List ℕ → List ℕ → List ℕ
 laid_for p q k frame b = cond (ltb (length b) (block_at p.state.ports q.slots)) b (placed p k frame b)
 
-pub lay_is : (low : Bool) (p : Import) (r b : List ℕ) → (taken most_ports low p r).number ≡ 0
+pub lay_is : (low : Bool) (p : Known) (r b : List ℕ) → (taken most_ports low p r).number ≡ 0
     → lay_output most_ports low p r b ≡ laid_for p (taken most_ports low p r) (packet_in low r) (frame_of p.state.ports r) b
 unfolding lay_output lay_number room_number laid_for
 lay_is low p r b e = rw e (go (ltb (length b) (block_at p.state.ports (taken most_ports low p r).slots)))
@@ -56,12 +55,12 @@ lay_is low p r b e = rw e (go (ltb (length b) (block_at p.state.ports (taken mos
     go true = refl
     go false = refl
 
-pub laid_room : (p q : Import) (k : Packet) (frame b : List ℕ) → block_at p.state.ports q.slots ≤ length b → laid_for p q k frame b ≡ placed p k frame b
+pub laid_room : (p q : Known) (k : Packet) (frame b : List ℕ) → block_at p.state.ports q.slots ≤ length b → laid_for p q k frame b ≡ placed p k frame b
 unfolding laid_for
 laid_room p q k frame b h = rw (le-ltb _ _ h)
 
 module _ (n : ℕ) (low : Bool) (r : Record) (g : Cut) (h : Good n g) where
-  abbrev p : Import
+  abbrev p : Known
   p = g.known
 
   abbrev k : Packet

@@ -15,9 +15,8 @@ use Rattle.trace_parts.specs.Body.{block_at}
 use Rattle.trace_writer.specs.Sealing.{field_bytes}
 use Rattle.captures.specs.Capture.{record_len, packet_in, frame_of}
 use Rattle.captures.specs.declared.packet.Packet.{Packet}
-use Rattle.import_steps.specs.Taking.{same_slot, next_slot, is_resent, heard, slot_begun, took}
+use Rattle.import_steps.specs.Taking.{Known, same_slot, next_slot, is_resent, heard, slot_begun, took}
 use Rattle.import_steps.specs.Laying.{over, fields_now, last_block, opened, placed}
-use Rattle.import_steps.specs.declared.taking.Import.{Import}
 use Rattle.imports.specs.Cut.{Record, host_of, frame_for, block_of}
 use Rattle.imports.proofs.Lists.{put_among}
 use Rattle.imports.proofs.Blocks.{heard_in, frame_other, frame_first, block_resent, block_none, framed_none}
@@ -28,7 +27,7 @@ over_behind_all : (p q x : List ℕ) (at : ℕ) → length p ≡ at → over at 
 unfolding over
 over_behind_all p q x at e = rw (take_at p q at e, ← e, drop-append-add p q (length x))
 
-module _ (n : ℕ) (p : Import) (low : Bool) (r : Record) (ports : p.state.ports ≡ n) (host : (packet_in low r).host < n) (whole : length r ≡ record_len n) where
+module _ (n : ℕ) (p : Known) (low : Bool) (r : Record) (ports : p.state.ports ≡ n) (host : (packet_in low r).host < n) (whole : length r ≡ record_len n) where
   abbrev k : Packet
   k = packet_in low r
 

@@ -17,9 +17,8 @@ use Rattle.trace_writer.specs.Sealing.{body_of}
 use Rattle.words.specs.Check.{checked}
 use Rattle.captures.specs.Capture.{packet_in, frame_of}
 use Rattle.captures.specs.declared.packet.Packet.{Packet}
-use Rattle.import_steps.specs.Taking.{begun, same_slot, next_slot, heard, slot_begun, numbered, taken, ends_body}
+use Rattle.import_steps.specs.Taking.{Known, begun, same_slot, next_slot, heard, slot_begun, numbered, taken, ends_body}
 use Rattle.import_steps.specs.Laying.{open_len, close_output, lay_output}
-use Rattle.import_steps.specs.declared.taking.Import.{Import}
 use Rattle.import_steps.proofs.Fitting.{Taken, begun-some, next-room}
 use Rattle.imports.specs.Cut.{Record, body_bytes, Cut, open_body, all_bodies, cut_more}
 use Rattle.imports.proofs.Along.{known_more}
@@ -40,7 +39,7 @@ abbrev pub Roomy : ℕ → List ℕ → Type 0
 Roomy n b = body_len n (most_slots n) ≤ length b
 
 module _ (n : ℕ) (low : Bool) (r : Record) (g : Cut) (h : Good n g) (b : List ℕ) (open-body : begun g.known ≡ true → Starts n g b) (room : Roomy n b) where
-  abbrev p : Import
+  abbrev p : Known
   p = g.known
 
   abbrev k : Packet
@@ -81,7 +80,7 @@ module _ (n : ℕ) (low : Bool) (r : Record) (g : Cut) (h : Good n g) (b : List 
   pub laid_step : (cut_more most_ports low r g).known.number ≡ 0 → Starts n (cut_more most_ports low r g) (lay_output most_ports low p r b)
   laid_step zero =
       let known = known_more low r g in
-      let is = lay_is low p r b (ap (λ (q : Import). q.number) (sym known) ∙ zero) ∙ ap (λ (q : Import). laid_for p q k (frame_of p.state.ports r) b) (sym known) in
+      let is = lay_is low p r b (ap (λ (q : Known). q.number) (sym known) ∙ zero) ∙ ap (λ (q : Known). laid_for p q k (frame_of p.state.ports r) b) (sym known) in
       rw is (after zero)
 
 -- what `close_body` leaves: the body
@@ -103,7 +102,7 @@ module _ (low : Bool) (r : Record) (g : Cut) where
   abbrev Ends : Cut → Type 0
   Ends d = d.known.number ≡ 0 → d.bodies ≡ cond (ends_body g.known d.known) (g.bodies ++ (open_body g ∷ [])) g.bodies
 
-  stays : (q : Import) → q.bodies ≡ g.known.bodies → g.bodies ≡ cond (ends_body g.known q) (g.bodies ++ (open_body g ∷ [])) g.bodies
+  stays : (q : Known) → q.bodies ≡ g.known.bodies → g.bodies ≡ cond (ends_body g.known q) (g.bodies ++ (open_body g ∷ [])) g.bodies
   stays q e = rw (eq-eqb _ _ e, and-false)
 
   ends_new : Ends (new_cut g r (packet_in low r))
@@ -118,4 +117,4 @@ module _ (low : Bool) (r : Record) (g : Cut) where
 
   pub ended_step : (cut_more most_ports low r g).known.number ≡ 0
       → (cut_more most_ports low r g).bodies ≡ cond (ends_body g.known (taken most_ports low g.known r)) (g.bodies ++ (open_body g ∷ [])) g.bodies
-  ended_step zero = ends zero ∙ ap (λ (q : Import). cond (ends_body g.known q) (g.bodies ++ (open_body g ∷ [])) g.bodies) (known_more low r g)
+  ended_step zero = ends zero ∙ ap (λ (q : Known). cond (ends_body g.known q) (g.bodies ++ (open_body g ∷ [])) g.bodies) (known_more low r g)

@@ -10,9 +10,11 @@ use lib.ListN.{length, get_or, take, drop, length-map, length-take}
 use lib.Seq.{take_at, drop-drop, drop_at}
 use borrow.Rule.Slice.PartMut.{mid_of, put_mid, mid_len}
 use borrow.Author.Tests.{eq-eqb, ne_eqb, lt-ltb, le-ltb, le-leb}
+use Rattle.import_steps.specs.Taking.{Known}
 use Rattle.laws.specs.Tests.{between}
 use Rattle.laws.proofs.Every.{each_every}
 use Rattle.laws.proofs.Tests.{every, in_range}
+use Rattle.refusals.specs.Numbers.{Answer}
 use Rattle.frames.specs.Part.{most_ports}
 use Rattle.frames.specs.Frame.{room_number, written}
 use Rattle.lent.specs.Writer.{writer_number}
@@ -22,8 +24,7 @@ use Rattle.trace_writer.specs.Writer.{counts_fit, contents_of, contents_output, 
 use Rattle.trace_writer.proofs.Fitting.{length_contents}
 use Rattle.imports.specs.Cut.{Body, joined_bytes, Cut, all_bodies}
 use Rattle.imports.specs.Import.{firsts_of, counts_of, trace_for, length_for, refused, cut_number, cut_answer, cut_output}
-use Rattle.imports.specs.declared.importing.Imported.{Imported}
-use Rattle.import_steps.specs.declared.taking.Import.{Import}
+use Rattle.imports.specs.declared.answer.Imported.{Imported}
 use Rattle.imports.proofs.Good.{Good, sound_all}
 use Rattle.imports.proofs.Lent.{from_lent}
 
@@ -91,49 +92,49 @@ module _ (n : ℕ) (g : Cut) (h : Good n g) where
 
 -- ---- the ends of the call, of what is known of the last record
 
-module _ (n : ℕ) (g : Cut) (out : List ℕ) (p : Import) (is : p ≡ g.known) where
-  abbrev Ends : Imported → List ℕ → Type 0
+module _ (n : ℕ) (g : Cut) (out : List ℕ) (p : Known) (is : p ≡ g.known) where
+  abbrev Ends : Answer Imported → List ℕ → Type 0
   Ends x left = (x ≡ cut_answer n g out) × (left ≡ cut_output n g out)
 
   abbrev bodies : List Body
   bodies = all_bodies g
 
   number_is : p.number ≡ g.known.number
-  number_is = ap (λ (q : Import). q.number) is
+  number_is = ap (λ (q : Known). q.number) is
 
-  pub cut-declined : (x : Imported) → (p.number ≡ 0 → ⊥) → x ≡ refused p.number → Ends x out
+  pub cut-declined : (x : Answer Imported) → (p.number ≡ 0 → ⊥) → x ≡ refused p.number → Ends x out
   unfolding cut_number cut_answer cut_output written
   cut-declined x other e =
       let differs : eqb g.known.number 0 ≡ false = ne_eqb g.known.number 0 (λ q. other (number_is ∙ q)) in
       rw (differs, differs) (e ∙ ap refused number_is, refl)
 
-  pub cut_short : (x : Imported) → p.number ≡ 0 → length out < length_for n bodies → x ≡ refused 7 → Ends x out
+  pub cut_short : (x : Answer Imported) → p.number ≡ 0 → length out < length_for n bodies → x ≡ refused 7 → Ends x out
   unfolding cut_number cut_answer cut_output written room_number
   cut_short x zero short e = rw (eq-eqb g.known.number 0 (sym number_is ∙ zero), lt-ltb (length out) (length_for n bodies) short) (e, refl)
 
-  pub cut_done : (x : Imported) (left : List ℕ) → p.number ≡ 0 → length_for n bodies ≤ length out → x ≡ record { number = 0; length = length_for n bodies; resent = p.resent }
+  pub cut_done : (x : Answer Imported) (left : List ℕ) → p.number ≡ 0 → length_for n bodies ≤ length out → x ≡ record { number = 0; fields = record { length = length_for n bodies; resent = p.resent } }
       → left ≡ trace_for n bodies ++ drop (length_for n bodies) out → Ends x left
   unfolding cut_number cut_answer cut_output written room_number
   cut_done x left zero room e l =
       rw (eq-eqb g.known.number 0 (sym number_is ∙ zero), le-ltb (length out) (length_for n bodies) room)
-      (e ∙ ap (λ (q : Import). record { number = 0; length = length_for n bodies; resent = q.resent }) is, l)
+      (e ∙ ap (λ (q : Known). record { number = 0; fields = record { length = length_for n bodies; resent = q.resent } }) is, l)
 
   -- its length
   pub length_known : Good n g → contents_len p.bodies + (p.bodies * 5 + p.state.due * block_len p.state.ports) ≡ length_for n bodies
   length_known h =
-      ap (λ (q : Import). contents_len q.bodies + (q.bodies * 5 + q.state.due * block_len q.state.ports)) is
+      ap (λ (q : Known). contents_len q.bodies + (q.bodies * 5 + q.state.due * block_len q.state.ports)) is
       ∙ ap (λ (z : ℕ). contents_len g.known.bodies + (g.known.bodies * 5 + g.known.state.due * block_len z)) h.ports ∙ length_is n g h
 
   pub known_small : Good n g → (p.state.ports ≤ most_ports) × (p.state.due ≤ 368640)
   known_small h =
-      let ports = ap (λ (q : Import). q.state.ports) is ∙ h.ports in
-      let due = ap (λ (q : Import). q.state.due) is in
+      let ports = ap (λ (q : Known). q.state.ports) is ∙ h.ports in
+      let due = ap (λ (q : Known). q.state.due) is in
       let few = slots_most n g h in
       (omega (arith, h.start.ports), omega arith)
 
   -- what is noted of the bodies, in a list that has a place for each
   pub noted_long : Good n g → (f : Body → ℕ) (s : List ℕ) → take p.bodies s ≡ map f bodies → p.bodies ≡ length (take p.bodies s)
-  noted_long h f s e = ap (λ (q : Import). q.bodies) is ∙ h.bodies ∙ sym (ap length e ∙ length-map bodies f)
+  noted_long h f s e = ap (λ (q : Known). q.bodies) is ∙ h.bodies ∙ sym (ap length e ∙ length-map bodies f)
 
 pub prefix_within : (b : ℕ) (s : List ℕ) → b ≡ length (take b s) → b ≤ length s
 prefix_within b s e = omega (arith, length-take b s)

@@ -6,9 +6,8 @@ use Rattle.frames.specs.Part.{frame_len}
 use Rattle.trace_parts.specs.declared.body.Fields.{Fields}
 use Rattle.trace_writer.specs.Sealing.{body_of}
 use Rattle.captures.specs.Capture.{packet_in, frame_of, record_at}
-use Rattle.import_steps.specs.Taking.{begun, same_slot, next_slot, taken}
+use Rattle.import_steps.specs.Taking.{Known, begun, same_slot, next_slot, taken}
 use Rattle.import_steps.specs.Laying.{fields_now}
-use Rattle.import_steps.specs.declared.taking.Import.{Import}
 
 abbrev pub Record : Type 0
 Record = List ℕ
@@ -48,7 +47,7 @@ joined_bytes n bs = joined (map (body_bytes n) bs)
 
 -- what is known; the bodies that are complete; the open body, in which the open slot's records stand by themselves
 pub record Cut : Type 0 where
-  pub known : Import
+  pub known : Known
   pub bodies : List Body
   pub fields : Fields
   pub slots : List (List Record)
@@ -62,7 +61,7 @@ unfoldable pub all_bodies : Cut → List Body
 all_bodies g = cond (begun g.known) (g.bodies ++ (open_body g ∷ [])) g.bodies
 
 -- nothing yet
-abbrev pub uncut : Import → Cut
+abbrev pub uncut : Known → Cut
 uncut p = record { known = p; bodies = []; fields = fields_now p; slots = []; records = [] }
 
 -- a record more: of the open slot, of the next slot, or of a new body
@@ -78,5 +77,5 @@ cut_more m low r g =
     (record { known = q; bodies = g.bodies; fields = g.fields; slots = g.slots; records = g.records })
 
 -- the first i records of the capture s, of n ports
-unfoldable pub cut : ℕ → Bool → ℕ → List ℕ → Import → ℕ → Cut
+unfoldable pub cut : ℕ → Bool → ℕ → List ℕ → Known → ℕ → Cut
 cut m low n s p = steps (λ i g. cut_more m low (record_at n s i) g) (uncut p)

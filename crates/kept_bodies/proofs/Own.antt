@@ -6,29 +6,29 @@ use mathlib.Core.List.{List, []}
 use Prim.Native.Nat.{ℕ, ◌≤◌, ◌<◌}
 use native.Mathlib.Nat.{le_refl}
 use native.Mathlib.Omega.{arith}
-use lib.Dec.{eqb}
 use lib.ListN.{length, take}
 use borrow.Author.Tests.{lt-ltb}
 use Rattle.laws.specs.Parts.{part, parts}
 use Rattle.laws.proofs.Loops.{same_steps}
 use Rattle.lent.proofs.Writes as lent
+use Rattle.refusals.specs.Numbers.{Answer}
 use Rattle.frames.specs.Part.{most_ports}
 use Rattle.trace_parts.specs.Layout.{most_bodies}
-use Rattle.trace_parts.specs.declared.contents.EntryRead.{EntryRead}
-use Rattle.trace_parts.specs.Contents.{ports_of, count_of, entry_of, entry_body, contents_end, contents_sound, has_entry, read_entry, start_read}
+use Rattle.trace_parts.specs.declared.contents.Described.{Described}
+use Rattle.trace_parts.specs.Contents.{ports_of, count_of, entry_of, entry_body, described, contents_end, contents_sound, has_entry, read_entry, start_read}
 use Rattle.trace_parts.proofs.ContentsLaws.{contents, has_known}
 use Rattle.trace_parts.proofs.ContentsOwn.{ports_own, count_own, entry_own, start_is, start_own}
 use Rattle.traces.specs.Trace.{body_at}
 use Rattle.trace_writer.specs.Writer.{contents_of, contents_number, trace_of}
 use Rattle.trace_writer.proofs.Starts.{body_small}
 use Rattle.body_fates.specs.declared.judging.Judged.{Judged}
-use Rattle.body_fates.specs.Fate.{kept}
+use Rattle.body_fates.specs.Fate.{is_kept}
 use Rattle.body_fates.specs.Judged.{judge, fate_of}
 use Rattle.kept_bodies.specs.ByBody.{body_read, judged_read, written_read}
 use Rattle.salvages.specs.Whole.{judge_at, judged_of}
 use Rattle.salvages.specs.Salvage.{if_sound, kept_firsts, kept_slots, salvaged, fate_at}
 use Rattle.salvages.proofs.Chosen.{same_parts}
-use Rattle.salvages.proofs.Judgements.{Known, judged_known, fates_at}
+use Rattle.salvages.proofs.Judgements.{Known, judged_known, fate_told}
 use Rattle.salvages.proofs.KeptSound.{kept_exactly}
 use Rattle.salvages.proofs.Wholes.{known_numbers, many_slots, counts_fit_lem}
 
@@ -43,7 +43,7 @@ module _ (m : ℕ) (s : List ℕ) (sound : contents_sound m s ≡ true) where
   pub count_shown : count_of start ≡ count_of s
   count_shown = rw (start_is m s sound) (count_own s (contents_end s) (le_refl _))
 
-  pub entry_shown : (k : ℕ) → k < count_of s → read_entry m start k ≡ record { number = 0; entry = entry_of s k; len = entry_body s k }
+  pub entry_shown : (k : ℕ) → k < count_of s → read_entry m start k ≡ record { number = 0; fields = described s k }
   entry_shown k l =
       let has : has_entry m start k ≡ true = has_known (contents m start (start_own m s ∙ sound)) k ∙ lt-ltb k (count_of start) (rw count_shown l) in
       let same : entry_of start k ≡ entry_of s k = rw (start_is m s sound) (entry_own s (contents_end s) (le_refl _) k l) in
@@ -55,7 +55,7 @@ module _ (m : ℕ) (s : List ℕ) (sound : contents_sound m s ≡ true) where
       rw count_shown
       (same_steps _ _ _ (count_of s)
       (λ k j l.
-      ap (λ (e : EntryRead). judge m (ports_of start) e.entry.first e.entry.slots (part e.entry.offset e.len s) j) (entry_shown k l)
+      ap (λ (e : Answer Described). judge m (ports_of start) e.fields.entry.first e.fields.entry.slots (part e.fields.entry.offset e.fields.len s) j) (entry_shown k l)
       ∙ rw ports_shown))
 
   known : Known m s (count_of s) (judged_of m s (count_of s))
@@ -66,27 +66,24 @@ module _ (m : ℕ) (s : List ℕ) (sound : contents_sound m s ≡ true) where
   judged_all = rw judged_own known.bodies_are
 
   pub fate-told : (k : ℕ) → k < count_of s → fate_of (judged_read m start s) k ≡ fate_at m s k
-  unfolding fate_of
-  fate-told k l =
-      let below : k < most_bodies = omega (arith, (contents m s sound).count) in
-      rw (judged_own, known.bodies_are, lt-ltb k (count_of s) l, lt-ltb k most_bodies below) (fates_at m s (count_of s) _ known k l)
+  fate-told k l = rw judged_own (fate_told m s (count_of s) _ known (contents m s sound).count k l)
 
   -- what is written is what is salvaged
-  put_own : (k : ℕ) → k < count_of s → cond (eqb (fate_of (judged_read m start s) k) kept) (body_read m start s k) [] ≡ if_sound m s (body_at s) k
+  put_own : (k : ℕ) → k < count_of s → cond (is_kept (fate_of (judged_read m start s) k)) (body_read m start s k) [] ≡ if_sound m s (body_at s) k
   unfolding body_at
   put_own k l =
-      ap (λ (e : EntryRead). cond (eqb (fate_of (judged_read m start s) k) kept) (part e.entry.offset e.len s) []) (entry_shown k l)
+      ap (λ (e : Answer Described). cond (is_kept (fate_of (judged_read m start s) k)) (part e.fields.entry.offset e.fields.len s) []) (entry_shown k l)
       ∙ rw (fate-told k l, kept_exactly m s k)
 
   pub body_by_body : written_read m start s (judged_read m start s) ≡ salvaged m s
   unfolding salvaged trace_of
   body_by_body =
-      let put = ap (parts (λ k. cond (eqb (fate_of (judged_read m start s) k) kept) (body_read m start s k) [])) count_shown ∙ same_parts _ _ (count_of s) put_own in
+      let put = ap (parts (λ k. cond (is_kept (fate_of (judged_read m start s) k)) (body_read m start s k) [])) count_shown ∙ same_parts _ _ (count_of s) put_own in
       rw (put, judged_own, ports_shown, known.firsts_are, known.slots_are)
 
 -- a body, and the new contents, fit 64 KiB
 module _ (s : List ℕ) (sound : contents_sound most_ports s ≡ true) where
-  pub body_fits_lem : (k : ℕ) → k < count_of s → (read_entry most_ports (start_read s) k).len ≤ 65536
+  pub body_fits_lem : (k : ℕ) → k < count_of s → (read_entry most_ports (start_read s) k).fields.len ≤ 65536
   body_fits_lem k l =
       let c = contents most_ports s sound in
       rw (entry_shown most_ports s sound k l) (body_small (ports_of s) (entry_of s k).slots c.ports (c.entries k l).most)

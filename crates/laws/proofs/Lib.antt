@@ -1,7 +1,9 @@
 pub mod Branches
 pub mod Bytes
+pub mod Chains
 pub mod Every
 pub mod Loops
+pub mod Mapped
 pub mod Members
 pub mod Parts
 pub mod Rows

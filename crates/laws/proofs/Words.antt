@@ -7,7 +7,7 @@ use native.Mathlib.Decide.{dec_lt}
 use native.Mathlib.Omega.{arith}
 use lib.Dec.{eqb}
 use lib.Pow.{shl_exact, pow-add, pow_mono, shr-shr, mod-mod-pow, field, high, low}
-use lib.Bits.{bit_and, bit_or, and_high, and_shr, and_step, and_le_l}
+use lib.Bits.{bit_and, bit_or, and_high, and_shr, and_step, and_le_l, or_zero_l}
 use lib.Count.{count_trailing_zeros, under}
 use Rattle.laws.specs.Sets.{digit, has, with, without}
 
@@ -24,6 +24,10 @@ and_single s k = ap (bit_and s) (omega (arith, pow-add 2 1 k)) ∙ and_high s 1 
 
 pub and_clears : (w s k : ℕ) → k < w → s - bit_and s ((1 * 2 ^ k) % 2 ^ w) ≡ without s k
 and_clears w s k l = ap (λ x. s - x) (ap (bit_and s) (single w k l) ∙ and_single s k)
+
+-- what is not in the set of k alone
+pub minus_one : (s k : ℕ) → s - bit_and s (with 0 k) ≡ without s k
+minus_one s k = ap (λ x. s - x) (ap (bit_and s) (or_zero_l (2 ^ k)) ∙ and_single s k)
 
 -- ---- which digits are left
 

@@ -4,7 +4,7 @@ use Rattle.ports.specs.Due.{due_number, declined}
 use Rattle.ports.specs.declared.state.State.{State}
 use Rattle.ports.specs.declared.state.Mode.{Mode}
 use Rattle.ports.specs.declared.state.Mode.TheVariants.{Central, Distributed, Diagonal}
-use Rattle.ports.specs.declared.answer.Stepped.{Stepped}
+use Rattle.ports.specs.Answer.{Stepped}
 use Rattle.planned.specs.Planned.{start}
 use Rattle.central.specs.Central.{central}
 use Rattle.central.specs.Diagonal.{diagonal}

@@ -14,10 +14,10 @@ use lib.ListN.{length, get_or, set, length-set}
 use lib.Seq.{get_or-set_same, get_or-set_other, ext_get_or}
 use borrow.Author.Tests.{lt-ltb, le-ltb, le-leb, lt-leb, eq-eqb, ne_eqb}
 use Rattle.laws.specs.Sets.{has, asks, without}
-use Rattle.laws.proofs.Members.{has_none, has-without, and_pred}
+use Rattle.laws.proofs.Members.{has-without, and_pred}
 use Rattle.laws.proofs.Rows.{row-tabled, length_tabled}
 use Rattle.laws.proofs.Words.{digit_past, first_digit, trailing_below}
-use Rattle.ledger.specs.Counts.{pairs, pair, raised, most_slots, Room}
+use Rattle.ledger.specs.Counts.{pairs, pair, raised, most_slots}
 
 -- ---- the count of a pair
 
@@ -50,13 +50,6 @@ pub record Raising (from row left : ℕ) (old counts : List ℕ) : Type 0 where
   pub long : length counts ≡ length old
   pub each : (k : ℕ) → get_or counts k 0 + cond (leb from k && has left (k - from)) 1 0 ≡ get_or old k 0 + cond (leb from k && has row (k - from)) 1 0
 
-pub all_left : (from row : ℕ) (old : List ℕ) → Raising from row row old old
-all_left from row old = record { long = refl; each = λ k. refl }
-
-pub none_left : {from row left : ℕ} {old counts : List ℕ} → Raising from row left old counts → left ≡ 0
-    → (length counts ≡ length old) × ((k : ℕ) → get_or counts k 0 ≡ get_or old k 0 + cond (leb from k && has row (k - from)) 1 0)
-none_left {from} r e = (r.long, λ k. omega (arith, rw (e, has_none (k - from), and-false) at (r.each k)))
-
 module _ {from row left : ℕ} {old counts : List ℕ} (so_far : Raising from row left old counts) (w : ℕ) (some : 0 < left) (small : left < 2 ^ w) where
   abbrev t : ℕ
   t = count_trailing_zeros w left
@@ -69,11 +62,11 @@ module _ {from row left : ℕ} {old counts : List ℕ} (so_far : Raising from ro
       let back : from + t - from ≡ t = omega arith in
       rw (le-leb from (from + t) (omega arith), back) first
 
-  pub bit_range : from + w ≤ length old → from + count_trailing_zeros w left < length counts
+  bit_range : from + w ≤ length old → from + count_trailing_zeros w left < length counts
   bit_range h = omega (arith, trailing_below w left some small, so_far.long)
 
-  pub bit-room : ((k : ℕ) → k < w → get_or old (from + k) 0 < most_slots) → get_or counts (from + count_trailing_zeros w left) 0 < most_slots
-  bit-room room =
+  pub bit_room : ((k : ℕ) → k < w → get_or old (from + k) 0 < most_slots) → get_or counts (from + count_trailing_zeros w left) 0 < most_slots
+  bit_room room =
       let now = rw here at (so_far.each (from + t)) in
       let most : cond (leb from (from + t) && has row (from + t - from)) 1 0 ≤ 1 = one (leb from (from + t) && has row (from + t - from)) in
       omega (arith, room t (trailing_below w left some small))
@@ -113,18 +106,7 @@ pub record Rows (m i : ℕ) (rows old counts : List ℕ) : Type 0 where
   pub long : length counts ≡ pairs m
   pub each : (k : ℕ) → get_or counts k 0 ≡ get_or old k 0 + cond (ltb k (i * m) && asks rows (k / m) (k % m)) 1 0
 
-pub no_rows : (m : ℕ) (rows old : List ℕ) → length old ≡ pairs m → Rows m 0 rows old old
-no_rows m rows old long = record { long = long; each = λ k. rw (le-ltb k (0 * m) (omega arith)) (sym (add-zero _)) }
-
 module _ {m i : ℕ} {rows old counts : List ℕ} (so_far : Rows m i rows old counts) (below : i < m) where
-  pub row_room : Room m old → (k : ℕ) → k < m → get_or counts (i * m + k) 0 < most_slots
-  row_room room k h =
-      let now = rw (le-ltb (i * m + k) (i * m) (omega arith)) at (so_far.each (i * m + k)) in
-      omega (arith, room (i * m + k) (pair_range m i k h below))
-
-  pub row_range : i * m + m ≤ length counts
-  row_range = omega (arith, so_far.long, mul-le-mul_right m below, suc-mul i m)
-
   pub one_row : {last : List ℕ} → get_or rows i 0 < 2 ^ m → length last ≡ length counts
       → ((k : ℕ) → get_or last k 0 ≡ get_or counts k 0 + cond (leb (i * m) k && has (get_or rows i 0) (k - i * m)) 1 0) → Rows m (i + 1) rows old last
   one_row small long each = record { long = long ∙ so_far.long; each = λ k. each k ∙ rw (add-one i, suc-mul i m) (go k (dec_lt k (i * m)) (dec_lt k (i * m + m))) }

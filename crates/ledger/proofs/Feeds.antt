@@ -2,15 +2,18 @@
 use mathlib.Core.Path.{◌≡◌, refl}
 use mathlib.Core.Bool.{Bool, true, false, ◌||◌, cond}
 use mathlib.Core.List.{List}
+use Rattle.std.specs.Prelude.{Ok, Err}
 use Prim.Native.Nat.{ℕ, suc, ◌≤◌, ◌<◌}
 use native.Mathlib.Omega.{arith}
 use lib.Dec.{eqb, ltb, leb}
-use borrow.Author.Tests.{ltb-false, leb-false, eqb-true, eqb-false}
+use borrow.Author.Tests.{ltb-false, leb-false, eqb-true, eqb-false, ne_eqb}
 use Rattle.laws.proofs.Tests.{neither, arms}
+use Rattle.refusals.specs.Numbers.{number_of, Answer, answer_of}
+use Rattle.refusals.specs.declared.Refusal.{Refusal}
+use Rattle.refusals.proofs.Unique.{refused_is_not_done}
 use Rattle.ledger.specs.Counts.{most_slots, Room}
 use Rattle.ledger.specs.Ledger.{over, refusal, number, next, feed}
 use Rattle.ledger.specs.declared.book.Ledger.{Ledger}
-use Rattle.ledger.specs.declared.book.Fed.{Fed}
 use Rattle.ledger.proofs.OverLaws.{none_over}
 
 pub record Countable (m : ℕ) (l : Ledger) (n : ℕ) : Type 0 where
@@ -41,15 +44,24 @@ countable m l n e =
       withdrawn = λ k h. omega (arith, counts.withdrawn k h);
     }
 
-pub feed_cases : (m : ℕ) (l : Ledger) (n : ℕ) (asked connected : List ℕ) (P : Fed → Type 0)
-    → (number m l n ≡ 0 → P (record { number = 0; ledger = next m l n asked connected }))
-    → ((number m l n ≡ 0 → ⊥) → P (record { number = number m l n; ledger = l }))
+pub feed_cases : (m : ℕ) (l : Ledger) (n : ℕ) (asked connected : List ℕ) (P : Answer Ledger → Type 0)
+    → (number m l n ≡ 0 → P (record { number = 0; fields = next m l n asked connected }))
+    → ((number m l n ≡ 0 → ⊥) → P (record { number = number m l n; fields = l }))
     → P (feed m l n asked connected)
 unfolding feed
 feed_cases m l n asked connected P counts declines =
     arms P (eqb (number m l n) 0) _ _ (λ e. counts (eqb-true _ _ e)) (λ e. declines (eqb-false _ _ e))
 
+-- so what answers by a result
+pub feed_declines : (m : ℕ) (l : Ledger) (n : ℕ) (asked connected : List ℕ) (e : Refusal) → number_of {A = Unit {0}} (Err e) ≡ number m l n → answer_of l (Err e) ≡ feed m l n asked connected
+unfolding feed
+feed_declines m l n asked connected e is = rw (← is, ne_eqb _ 0 (refused_is_not_done e))
+
+pub feed_counts : (m : ℕ) (l : Ledger) (n : ℕ) (asked connected : List ℕ) → number m l n ≡ 0 → answer_of l (Ok (next m l n asked connected)) ≡ feed m l n asked connected
+unfolding feed
+feed_counts m l n asked connected z = rw z
+
 -- a declined feed counts nothing
 pub declined_keeps : (m : ℕ) (l : Ledger) (n : ℕ) (asked connected : List ℕ) → ((feed m l n asked connected).number ≡ 0 → ⊥)
-    → (feed m l n asked connected).ledger ≡ l
-declined_keeps m l n asked connected = feed_cases m l n asked connected (λ r. (r.number ≡ 0 → ⊥) → r.ledger ≡ l) (λ z ne. absurd (ne refl)) (λ ne z. refl)
+    → (feed m l n asked connected).fields ≡ l
+declined_keeps m l n asked connected = feed_cases m l n asked connected (λ r. (r.number ≡ 0 → ⊥) → r.fields ≡ l) (λ z ne. absurd (ne refl)) (λ ne z. refl)

@@ -16,6 +16,7 @@ use Rattle.laws.proofs.Members.{set_row}
 use Rattle.laws.proofs.Rows.{length_tabled, no_bits}
 use Rattle.laws.proofs.Steps.{kept}
 use Rattle.ports.specs.Tables.{within}
+use Rattle.refusals.specs.Numbers.{Answer}
 use Rattle.ledger.specs.Counts.{pairs}
 use Rattle.ledger.specs.Events.{but, less, happened}
 use Rattle.ledger.specs.Ledger.{empty, shown, number, next, feed}
@@ -23,7 +24,6 @@ use Rattle.ledger.specs.Lent.{words_len, table_start, ledger_of, words_of, lent_
 use Rattle.ledger.specs.History.{Feed}
 use Rattle.ledger.specs.Shows.{fed, counted, told, lent_fed}
 use Rattle.ledger.specs.declared.book.Ledger.{Ledger}
-use Rattle.ledger.specs.declared.book.Fed.{Fed}
 use Rattle.ledger.proofs.CountLaws.{length_raised}
 use Rattle.ledger.proofs.Feeds.{countable}
 use Rattle.ledger.proofs.LentLaws.{Stands, the_part, rest_from}
@@ -160,15 +160,15 @@ unfolding lent_number
 lent_number_lem m words n l r = rw (eq-eqb _ _ r.long, r.is)
 
 lent_feed_lem : (m : ℕ) (words : List ℕ) (l : Ledger) (n : ℕ) (asked connected : List ℕ) → Reads m words l
-    → Reads m (lent_feed m words n asked connected) (feed m l n asked connected).ledger
+    → Reads m (lent_feed m words n asked connected) (feed m l n asked connected).fields
 unfolding lent_feed feed
 lent_feed_lem m words l n asked connected r = rw (lent_number_lem m words n l r, r.is) (go (eqb (number m l n) 0) refl)
   where
-    after : Bool → Fed
-    after b = cond b (record { number = 0; ledger = next m l n asked connected }) (record { number = number m l n; ledger = l })
+    after : Bool → Answer Ledger
+    after b = cond b (record { number = 0; fields = next m l n asked connected }) (record { number = number m l n; fields = l })
 
     go : (b : Bool) → eqb (number m l n) 0 ≡ b → Reads m (cond b (words_of (next m l n asked connected)) words)
-        (after b).ledger
+        (after b).fields
     go true e =
         let formed = formed-next m l n asked connected (countable m l n (eqb-true _ 0 e)).ports in
         record { long = length_words m _ formed; is = reads_back m _ formed }
@@ -180,7 +180,7 @@ lent_reads m [] = record { long = length-replicate (words_len m) 0; is = ap (led
 lent_reads m (f ∷ feeds) = lent_feed_lem m (lent_fed m feeds) (fed m feeds) f.ports f.asked f.connected (lent_reads m feeds)
 
 -- the figures that are shown are the history's
-pub lent_tells : (m : ℕ) (feeds : List Feed) (i t : ℕ) → i < m → t < m → lent_shown m (lent_fed m feeds) i t ≡ record { number = 0; figures = told (counted m feeds) i t }
+pub lent_tells : (m : ℕ) (feeds : List Feed) (i t : ℕ) → i < m → t < m → lent_shown m (lent_fed m feeds) i t ≡ record { number = 0; fields = told (counted m feeds) i t }
 unfolding lent_shown shown
 lent_tells m feeds i t i< t< =
     rw (eq-eqb _ _ (lent_reads m feeds).long, (lent_reads m feeds).is, lt-leb m i i<, lt-leb m t t<, (shows m feeds).figures i t i< t<)

@@ -3,18 +3,23 @@ use mathlib.Core.Path.{◌≡◌, refl, sym, ap, ◌∙◌}
 use mathlib.Core.Bool.{Bool, ◌&&◌, ◌||◌, cond}
 use mathlib.Core.List.{List, [], ◌∷◌, ◌++◌, map, append_assoc, append-nil}
 use Prim.Native.Nat.{ℕ, ◌+◌, ◌*◌, ◌%◌, ◌^◌, ◌≤◌, ◌<◌}
-use native.Mathlib.Numerals.{add-one}
 use native.Mathlib.Omega.{arith}
 use lib.Dec.{ltb}
-use lib.ListN.{length, get_or, set, take, drop, length-append, length-drop, take-append-drop}
-use lib.Seq.{get_or-take, get_or-drop, take_at, drop_at, drop-drop, take-suc, take-suc-set, set_split, length-take-le}
-use borrow.Rule.Slice.PartMut.{put_mid}
-use Rattle.laws.specs.Sets.{has}
-use Rattle.laws.proofs.Rows.{row_map}
+use lib.ListN.{length, get_or, set, take, drop, length-append, length-drop, length-map, take-append-drop}
+use lib.Seq.{ext_get_or, get_or-take, get_or-drop, take_at, drop_at, drop-drop, set_split, length-take-le}
+use borrow.Rule.Slice.PartMut.{mid_of, put_mid}
+use Rattle.laws.specs.Sets.{has, tabled}
+use Rattle.laws.proofs.Rows.{row_map, length_tabled, row-tabled}
+use borrow.Author.Tests.{eq-eqb, ne_eqb}
+use Rattle.std.specs.Prelude.{Result, Ok, Err}
+use Rattle.refusals.specs.Numbers.{number_of}
+use Rattle.refusals.specs.declared.Refusal.{Refusal}
+use Rattle.refusals.specs.declared.Refusal.TheVariants.{BadLen}
+use Rattle.refusals.proofs.Unique.{refused_is_not_done}
 use Rattle.ledger.specs.Counts.{pairs, pair, raised, above, Room}
 use Rattle.ledger.specs.Events.{happened}
-use Rattle.ledger.specs.Ledger.{figures_of, over, next}
-use Rattle.ledger.specs.Lent.{words_len, table_start, ledger_of, words_of}
+use Rattle.ledger.specs.Ledger.{figures_of, over, number, next}
+use Rattle.ledger.specs.Lent.{words_len, table_start, ledger_of, words_of, lent_number, lent_feed}
 use Rattle.ledger.specs.declared.book.Figures.{Figures}
 use Rattle.ledger.specs.declared.events.Events.{Events}
 use Rattle.ledger.proofs.CountLaws.{pair_range, length_raised}
@@ -29,9 +34,6 @@ pub record Stands (at k : ℕ) (pre part post words : List ℕ) : Type 0 where
   pub size : length part ≡ k
 
 module _ {at k : ℕ} {pre part post words : List ℕ} (s : Stands at k pre part post words) where
-  pub reaches : at + k ≤ length words
-  reaches = rw s.is (omega (arith, length-append pre (part ++ post), length-append part post, s.start, s.size))
-
   pub rest_from : drop at words ≡ part ++ post
   rest_from = rw (s.is, drop_at pre (part ++ post) at s.start)
 
@@ -41,12 +43,6 @@ module _ {at k : ℕ} {pre part post words : List ℕ} (s : Stands at k pre part
   -- with something else in its place
   exchanged : (new : List ℕ) → take at words ++ (new ++ drop k (drop at words)) ≡ pre ++ (new ++ post)
   exchanged new = rw (s.is, take_at pre (part ++ post) at s.start, drop_at pre (part ++ post) at s.start, drop_at part post k s.size)
-
--- ---- the sets, one by one
-
-pub next_put : (words sets : List ℕ) (i : ℕ) → take i words ≡ take i sets → i < length words → i < length sets
-    → take (i + 1) (set words i (get_or sets i 0)) ≡ take (i + 1) sets
-next_put words sets i e h l = rw (add-one i, take-suc-set words i (get_or sets i 0) h, e, take-suc sets i 0 l)
 
 -- ---- the parts of the words
 
@@ -75,17 +71,28 @@ module _ (m : ℕ) (words : List ℕ) (long : length words ≡ words_len m) wher
   sets_size : length (sets_of m words) ≡ m
   sets_size = length-drop (table_start m 4) words ∙ omega arith
 
+  -- the sets, made one by one
+  pub sets_read : tabled m (λ i. get_or words (table_start m 4 + i) 0 % 2 ^ m) m ≡ map (λ s. s % 2 ^ m) (sets_of m words)
+  sets_read = ext_get_or 0 _ _ (length_tabled m _ m ∙ sym (length-map (sets_of m words) _ ∙ sets_size)) same
+    where
+      same : (i : ℕ) → i < length (tabled m (λ i. get_or words (table_start m 4 + i) 0 % 2 ^ m) m)
+          → get_or (tabled m (λ i. get_or words (table_start m 4 + i) 0 % 2 ^ m) m) i 0 ≡ get_or (map (λ s. s % 2 ^ m) (sets_of m words)) i 0
+      same i l =
+          let small : i < m = omega (arith, length_tabled m (λ i. get_or words (table_start m 4 + i) 0 % 2 ^ m) m) in
+          row-tabled m _ m i small small ∙ ap (λ s. s % 2 ^ m) (sym (get_or-drop (table_start m 4) words i 0))
+          ∙ sym (row_map (λ s. s % 2 ^ m) (sets_of m words) i (omega (arith, sets_size)))
+
 -- ---- one slot more
 
 -- a table at its place is raised, and what follows stands behind it
 module _ (m : ℕ) {at : ℕ} {pre part post words : List ℕ} (s : Stands at (pairs m) pre part post words) where
-  pub ready : Room m part → (at + pairs m ≤ length words) × Room m (take (pairs m) (drop at words))
-  ready room = (reaches s, rw (the_part s) room)
+  pub ready : Room m part → (length (mid_of at (pairs m) words) ≡ pairs m) × Room m (mid_of at (pairs m) words)
+  ready room = rw (the_part s) (s.size, room)
 
-  table_after : (rows : List ℕ) {last next rest : List ℕ} → last ≡ take at words ++ (raised m rows (take (pairs m) (drop at words)) ++ drop (at + pairs m) words)
-      → post ≡ next ++ rest → {k : ℕ} → length next ≡ k → Stands (at + pairs m) k (pre ++ raised m rows part) next rest last
+  table_after : (rows : List ℕ) {new next rest : List ℕ} → new ≡ raised m rows (mid_of at (pairs m) words) → post ≡ next ++ rest → {k : ℕ} → length next ≡ k
+      → Stands (at + pairs m) k (pre ++ raised m rows part) next rest (put_mid at (pairs m) words new)
   table_after rows e is size = record {
-    is = e ∙ rw (← drop-drop (pairs m) at words, the_part s) (exchanged s (raised m rows part) ∙ ap (λ (l : List ℕ). pre ++ (raised m rows part ++ l)) is ∙ sym (append_assoc pre _ _));
+    is = ap (put_mid at (pairs m) words) (e ∙ ap (raised m rows) (the_part s)) ∙ exchanged s (raised m rows part) ∙ ap (λ (l : List ℕ). pre ++ (raised m rows part ++ l)) is ∙ sym (append_assoc pre _ _);
     start = length-append pre (raised m rows part) ∙ rw (s.start, length_raised);
     size = size;
   }
@@ -104,9 +111,8 @@ module _ (m : ℕ) (words : List ℕ) (long : length words ≡ words_len m) (slo
   abbrev sets : List ℕ
   sets = sets_of m words
 
-  -- one more for each pair of `rows`, at `at`
-  abbrev at_place : ℕ → List ℕ → List ℕ → List ℕ
-  at_place at rows now = take at now ++ (raised m rows (take (pairs m) (drop at now)) ++ drop (at + pairs m) now)
+  abbrev first : List ℕ
+  first = set words 0 x
 
   pub first_table : Stands 1 (pairs m) (x ∷ []) (table 0) (table 1 ++ (table 2 ++ (table 3 ++ sets))) (set words 0 x)
   first_table = record {
@@ -115,37 +121,68 @@ module _ (m : ℕ) (words : List ℕ) (long : length words ≡ words_len m) (slo
     size = table_size m words long 0 (omega arith);
   }
 
-  module _ {two : List ℕ} (e : two ≡ at_place 1 slot.asked (set words 0 x)) where
+  module _ {a : List ℕ} (e : a ≡ raised m slot.asked (mid_of 1 (pairs m) first)) where
     abbrev asked : List ℕ
     asked = x ∷ raised m slot.asked (table 0)
 
-    pub second_table : Stands (1 + pairs m) (pairs m) asked (table 1) (table 2 ++ (table 3 ++ sets)) two
+    abbrev second : List ℕ
+    second = put_mid 1 (pairs m) first a
+
+    pub second_table : Stands (1 + pairs m) (pairs m) asked (table 1) (table 2 ++ (table 3 ++ sets)) second
     second_table = table_after m first_table slot.asked e refl (table_size m words long 1 (omega arith))
 
-    module _ {three : List ℕ} (f : three ≡ at_place (1 + pairs m) slot.connected two) where
+    module _ {c : List ℕ} (f : c ≡ raised m slot.connected (mid_of (1 + pairs m) (pairs m) second)) where
       abbrev connected : List ℕ
       connected = asked ++ raised m slot.connected (table 1)
 
-      pub third_table : Stands (1 + pairs m + pairs m) (pairs m) connected (table 2) (table 3 ++ sets) three
+      abbrev third : List ℕ
+      third = put_mid (1 + pairs m) (pairs m) second c
+
+      pub third_table : Stands (1 + pairs m + pairs m) (pairs m) connected (table 2) (table 3 ++ sets) third
       third_table = table_after m second_table slot.connected f refl (table_size m words long 2 (omega arith))
 
-      module _ {four : List ℕ} (g : four ≡ at_place (1 + pairs m + pairs m) slot.fresh three) where
+      module _ {n : List ℕ} (g : n ≡ raised m slot.fresh (mid_of (1 + pairs m + pairs m) (pairs m) third)) where
         abbrev fresh : List ℕ
         fresh = connected ++ raised m slot.fresh (table 2)
 
-        pub fourth_table : Stands (1 + pairs m + pairs m + pairs m) (pairs m) fresh (table 3) sets four
+        abbrev fourth : List ℕ
+        fourth = put_mid (1 + pairs m + pairs m) (pairs m) third n
+
+        pub fourth_table : Stands (1 + pairs m + pairs m + pairs m) (pairs m) fresh (table 3) sets fourth
         fourth_table = table_after m third_table slot.fresh g refl (table_size m words long 3 (omega arith))
 
-        module _ {five : List ℕ} (h : five ≡ at_place (1 + pairs m + pairs m + pairs m) slot.withdrawn four) where
-          pub the_sets : Stands (1 + pairs m + pairs m + pairs m + pairs m) m (fresh ++ raised m slot.withdrawn (table 3)) sets [] five
+        module _ {w : List ℕ} (h : w ≡ raised m slot.withdrawn (mid_of (1 + pairs m + pairs m + pairs m) (pairs m) fourth)) where
+          abbrev last : List ℕ
+          last = put_mid (1 + pairs m + pairs m + pairs m) (pairs m) fourth w
+
+          the_sets : Stands (1 + pairs m + pairs m + pairs m + pairs m) m (fresh ++ raised m slot.withdrawn (table 3)) sets [] last
           the_sets = table_after m fourth_table slot.withdrawn h (sym (append-nil sets)) (sets_size m words long)
 
-          pub counted_words : (n : ℕ) (asks connects : List ℕ) {last : List ℕ} → slot ≡ happened m n (ledger_of m words).waiting asks connects → last ≡ slot.waiting
-              → put_mid (1 + pairs m + pairs m + pairs m + pairs m) m five last ≡ words_of (next m (ledger_of m words) n asks connects)
+          pub counted_words : (k : ℕ) (asks connects : List ℕ) {waits : List ℕ} → slot ≡ happened m k (ledger_of m words).waiting asks connects → waits ≡ slot.waiting
+              → put_mid (1 + pairs m + pairs m + pairs m + pairs m) m last waits ≡ words_of (next m (ledger_of m words) k asks connects)
           unfolding words_of next ledger_of
-          counted_words n asks connects {last} is is_last = exchanged the_sets last
-              ∙ ap (λ (l : List ℕ). x ∷ l) (regrouped (raised m slot.asked (table 0)) (raised m slot.connected (table 1)) (raised m slot.fresh (table 2)) (raised m slot.withdrawn (table 3)) last)
-              ∙ rw (is_last, is)
+          counted_words k asks connects {waits} is is_waits = exchanged the_sets waits
+              ∙ ap (λ (l : List ℕ). x ∷ l) (regrouped (raised m slot.asked (table 0)) (raised m slot.connected (table 1)) (raised m slot.fresh (table 2)) (raised m slot.withdrawn (table 3)) waits)
+              ∙ rw (is_waits, is)
+
+-- ---- the feed, by a result
+
+module _ (m : ℕ) (words : List ℕ) (n : ℕ) (asked connected : List ℕ) where
+  abbrev Ends : Result (Unit {0}) Refusal → List ℕ → Type 0
+  Ends result left = (number_of result ≡ lent_number m words n) × (left ≡ lent_feed m words n asked connected)
+
+  pub lent_unfit : (length words ≡ words_len m → ⊥) → Ends (Err BadLen) words
+  unfolding lent_number lent_feed
+  lent_unfit other = rw (ne_eqb _ _ other) (refl, refl)
+
+  module _ (long : length words ≡ words_len m) where
+    pub lent_declines : (e : Refusal) (left : List ℕ) → left ≡ words → number_of {A = Unit {0}} (Err e) ≡ number m (ledger_of m words) n → Ends (Err e) left
+    unfolding lent_number lent_feed
+    lent_declines e left same is = rw (eq-eqb _ _ long, ← is, ne_eqb _ 0 (refused_is_not_done e)) (refl, same)
+
+    pub lent_counts : (left : List ℕ) → number m (ledger_of m words) n ≡ 0 → left ≡ words_of (next m (ledger_of m words) n asked connected) → Ends (Ok tt) left
+    unfolding lent_number lent_feed
+    lent_counts left z is = rw (eq-eqb _ _ long, z) (refl, is)
 
 -- the figures above the slots counted, in the words
 pub lent_over : (m : ℕ) (words : List ℕ) {waiting part : List ℕ} {a e : Bool} → part ≡ take (4 * pairs m) (drop 1 words) → length part ≡ 4 * pairs m

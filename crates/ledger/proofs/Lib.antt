@@ -1,3 +1,4 @@
+pub mod Chains
 pub mod CountLaws
 pub mod EventLaws
 pub mod OverLaws

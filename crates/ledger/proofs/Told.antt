@@ -95,7 +95,7 @@ shows m [] = no_feed m
 shows m (f ∷ feeds) =
     let s = shows m feeds in
     feed_cases m (fed m feeds) f.ports f.asked f.connected
-    (λ r. Shows m (cond (eqb r.number 0) (f ∷ counted m feeds) (counted m feeds)) r.ledger)
+    (λ r. Shows m (cond (eqb r.number 0) (f ∷ counted m feeds) (counted m feeds)) r.fields)
     (λ z. next_shows m f (counted m feeds) (fed m feeds) s)
     (λ ne. rw (ne_eqb _ 0 ne) s)
 
@@ -129,8 +129,8 @@ module _ (m : ℕ) (h : List Feed) (l : Ledger) (s : Shows m h l) where
   shown-number n = rw (never_over, s.slots, or-false)
 
   -- and until then a feed of 1 to m ports is counted
-  pub feed_shows : (f : Feed) → 1 ≤ f.ports → f.ports ≤ m → length h < most_slots → Shows m (f ∷ h) (fed_with m l f).ledger
-  feed_shows f some most few = feed_cases m l f.ports f.asked f.connected (λ r. Shows m (f ∷ h) r.ledger) (λ z. next_shows m f h l s)
+  pub feed_shows : (f : Feed) → 1 ≤ f.ports → f.ports ≤ m → length h < most_slots → Shows m (f ∷ h) (fed_with m l f).fields
+  feed_shows f some most few = feed_cases m l f.ports f.asked f.connected (λ r. Shows m (f ∷ h) r.fields) (λ z. next_shows m f h l s)
       (λ ne. absurd (ne (shown-number f.ports ∙ rw (le-ltb f.ports 1 some, le-ltb m f.ports most, lt-leb most_slots (length h) few))))
 
 -- ---- so for every history of feeds, from the empty ledger

@@ -2,12 +2,11 @@
 use Rattle.std.specs.Prelude.{ℕ, ◌+◌, Bool, ◌||◌, cond, List, eqb, ltb, leb, get_or, replicate}
 use Rattle.laws.specs.Steps.{some}
 use Rattle.laws.specs.Sets.{asks}
+use Rattle.refusals.specs.Numbers.{Answer}
 use Rattle.ledger.specs.Counts.{pairs, pair, raised, most_slots}
 use Rattle.ledger.specs.Events.{happened}
 use Rattle.ledger.specs.declared.book.Ledger.{Ledger}
 use Rattle.ledger.specs.declared.book.Figures.{Figures}
-use Rattle.ledger.specs.declared.book.Shown.{Shown}
-use Rattle.ledger.specs.declared.book.Fed.{Fed}
 
 unfoldable pub empty : ℕ → Ledger
 empty m =
@@ -27,12 +26,15 @@ figures_of m l i t =
     }
 
 -- a call that declines shows zeros
-unfoldable pub hidden : ℕ → Shown
-hidden number = record { number = number; figures = record { asked = 0; connected = 0; fresh = 0; withdrawn = 0; isopen = 0 } }
+abbrev pub no_figures : Figures
+no_figures = record { asked = 0; connected = 0; fresh = 0; withdrawn = 0; isopen = 0 }
+
+unfoldable pub hidden : ℕ → Answer Figures
+hidden number = record { number = number; fields = no_figures }
 
 -- the call that shows them: number 11 for i or t at or above m
-unfoldable pub shown : ℕ → Ledger → ℕ → ℕ → Shown
-shown m l i t = cond (leb m i || leb m t) (hidden 11) (record { number = 0; figures = figures_of m l i t })
+unfoldable pub shown : ℕ → Ledger → ℕ → ℕ → Answer Figures
+shown m l i t = cond (leb m i || leb m t) (hidden 11) (record { number = 0; fields = figures_of m l i t })
 
 -- one of a pair's figures is above x; and the ledger shows one above its slots counted
 unfoldable pub high : ℕ → Figures → Bool
@@ -62,8 +64,8 @@ next m l n asked connected =
     }
 
 -- the feed: a ledger that declines stays as it was
-unfoldable pub feed : ℕ → Ledger → ℕ → List ℕ → List ℕ → Fed
+unfoldable pub feed : ℕ → Ledger → ℕ → List ℕ → List ℕ → Answer Ledger
 feed m l n asked connected =
     cond (eqb (number m l n) 0)
-    (record { number = 0; ledger = next m l n asked connected })
-    (record { number = number m l n; ledger = l })
+    (record { number = 0; fields = next m l n asked connected })
+    (record { number = number m l n; fields = l })

@@ -1,9 +1,10 @@
 -- The ledger in lent words, on shelves of at most m ports: the slots counted, the four tables of counts, and the sets that wait.
 use Rattle.std.specs.Prelude.{ℕ, ◌+◌, ◌*◌, ◌%◌, ◌^◌, cond, List, ◌∷◌, ◌++◌, map, eqb, length, get_or, take, drop}
+use Rattle.refusals.specs.Numbers.{Answer}
 use Rattle.ledger.specs.Counts.{pairs}
 use Rattle.ledger.specs.Ledger.{hidden, shown, number, next}
 use Rattle.ledger.specs.declared.book.Ledger.{Ledger}
-use Rattle.ledger.specs.declared.book.Shown.{Shown}
+use Rattle.ledger.specs.declared.book.Figures.{Figures}
 
 -- how many words there are, and where table j starts; the sets stand after table 3
 abbrev pub words_len : ℕ → ℕ
@@ -37,5 +38,5 @@ lent_feed m words n asked connected =
     cond (eqb (lent_number m words n) 0) (words_of (next m (ledger_of m words) n asked connected)) words
 
 -- the figures of a pair
-unfoldable pub lent_shown : ℕ → List ℕ → ℕ → ℕ → Shown
+unfoldable pub lent_shown : ℕ → List ℕ → ℕ → ℕ → Answer Figures
 lent_shown m words i t = cond (eqb (length words) (words_len m)) (shown m (ledger_of m words) i t) (hidden 8)

@@ -1,20 +1,20 @@
 -- An empty ledger that is fed, on shelves of at most m ports, and the history that its figures are to tell.
 use Rattle.std.specs.Prelude.{ℕ, ◌<◌, ◌≡◌, cond, List, [], ◌∷◌, eqb, length, replicate}
+use Rattle.refusals.specs.Numbers.{Answer}
 use Rattle.ledger.specs.Ledger.{empty, figures_of, feed}
 use Rattle.ledger.specs.Lent.{words_len, lent_feed}
 use Rattle.ledger.specs.History.{Feed, is_asked, is_connected, is_fresh, is_withdrawn, how_often, is_open}
 use Rattle.ledger.specs.declared.book.Ledger.{Ledger}
 use Rattle.ledger.specs.declared.book.Figures.{Figures}
-use Rattle.ledger.specs.declared.book.Fed.{Fed}
 
 -- one feed
-abbrev pub fed_with : ℕ → Ledger → Feed → Fed
+abbrev pub fed_with : ℕ → Ledger → Feed → Answer Ledger
 fed_with m l f = feed m l f.ports f.asked f.connected
 
 -- an empty ledger after the feeds, the latest first; and those of them that were counted
 unfoldable pub fed : ℕ → List Feed → Ledger
 fed m [] = empty m
-fed m (f ∷ before) = (fed_with m (fed m before) f).ledger
+fed m (f ∷ before) = (fed_with m (fed m before) f).fields
 
 unfoldable pub counted : ℕ → List Feed → List Feed
 counted m [] = []

@@ -1,15 +1,18 @@
 // The ledger by value: an empty one, the feed after a served slot, and the figures of a pair.
-ghost use Rattle.std.specs.Prelude.{◌≡◌, cond, ◌<◌};
+ghost use Rattle.std.specs.Prelude.{◌≡◌};
 ghost use Rattle.frames.specs.Part.{most_ports};
-ghost use Rattle.laws.specs.Sets.{has};
-ghost use Rattle.ledger.specs.Counts.{pairs, raised, above, Room};
-ghost use Rattle.ledger.specs.Ledger.{empty, hidden, figures_of, shown, over, refusal, number, next, feed};
+ghost use Rattle.refusals.specs.Numbers.{number_of, answer_of};
+ghost use Rattle.ledger.specs.Ledger.{empty, no_figures, figures_of, shown, over, refusal, number, next, feed};
 
 use crate::counts::{above, raise};
 use crate::events::{any, happened};
-use ports::{Initiator, Set, State, Table, Target};
+use crate::pair::Pair;
+use ports::{Initiator, State, Table, Target, wrong_ports};
+use refusals::Refusal;
+use words::holds;
 
 // Four counts for each pair, and the pairs that were asked and not connected in the last counted slot.
+// Four arrays, whose counts stand at the same place: document 01's form for the ledger's tables.
 #[derive(Clone, Copy)]
 pub struct Ledger {
     pub slots: u32,
@@ -20,14 +23,7 @@ pub struct Ledger {
     pub waiting: Table,
 }
 
-// The number of a feed, and the ledger after it: as it was, if the number is not 0.
-#[derive(Clone, Copy)]
-pub struct Fed {
-    pub number: u8,
-    pub ledger: Ledger,
-}
-
-// The five figures of a pair.
+// The five figures of a pair. Whether it is open is 0 or 1, as the balance of the others adds it.
 #[derive(Clone, Copy)]
 pub struct Figures {
     pub asked: u32,
@@ -37,20 +33,14 @@ pub struct Figures {
     pub isopen: u32,
 }
 
-// The number, and the figures: zeros, if the number is not 0.
-#[derive(Clone, Copy)]
-pub struct Shown {
-    pub number: u8,
-    pub figures: Figures,
-}
-
 impl Ledger {
     // How many pairs there are.
     pub const PAIRS: usize = State::MOST * State::MOST;
 
     // The most slots that are counted.
-    pub const SLOTS: u32 = 4294967295;
+    pub const SLOTS: u32 = u32::MAX;
 
+    #[tactic(auto, unfolding(crate::specs::Ledger::empty))]
     pub fn empty() -> Ledger
         ensures { result ≡ empty most_ports }
     {
@@ -65,130 +55,74 @@ impl Ledger {
     }
 }
 
-fn exceeds(counts: &[u32; Ledger::PAIRS], x: u32) -> bool
-    ensures { result ≡ above counts.now x (pairs most_ports) }
-{
-    above(counts, x)
-}
-
 // A figure is above the slots counted; an open request is one.
-fn over(ledger: Ledger) -> bool
-    ensures { result ≡ over most_ports ledger }
+fn over(ledger: &Ledger) -> bool
+    ensures { result ≡ over most_ports ledger.now }
 {
-    let waiting = ledger.waiting;
     let x = ledger.slots;
-    exceeds(&ledger.asked, x)
-        | exceeds(&ledger.connected, x)
-        | exceeds(&ledger.fresh, x)
-        | exceeds(&ledger.withdrawn, x)
-        | ((x < 1) & any(waiting))
+    above(&ledger.asked, x)
+        | above(&ledger.connected, x)
+        | above(&ledger.fresh, x)
+        | above(&ledger.withdrawn, x)
+        | ((x < 1) & any(&ledger.waiting))
 }
 
-// The numbers 1 and 13, or 0 if the slot is to be counted.
-pub(crate) fn refusal(n: usize, slots: u32, over: bool) -> u8
-    ensures { result ≡ refusal most_ports n slots over }
+// Why a slot is not to be counted.
+#[tactic(auto, unfolding(crate::specs::Ledger::refusal))]
+pub(crate) fn refusal(n: usize, slots: u32, over: bool) -> Result<(), Refusal>
+    ensures { number_of result ≡ refusal most_ports n slots over }
 {
-    if (n < 1) | (State::MOST < n) {
-        return 1;
+    if wrong_ports(n) {
+        return Err(Refusal::BadPorts);
     }
     if (Ledger::SLOTS <= slots) | over {
-        return 13;
+        return Err(Refusal::BadLedger);
     }
-    0
+    Ok(())
 }
 
-fn raise_table(counts: &mut [u32; Ledger::PAIRS], rows: Table)
-    requires { Room most_ports counts.old }
-    ensures { counts.new ≡ raised most_ports rows counts.old }
-{
-    raise(counts, rows);
-}
-
-// With one slot more.
+// With one slot more. n and both tables go from feed to happened as they came: a struct would be made and taken apart once.
 fn next(ledger: Ledger, n: usize, asked: Table, connected: Table) -> Ledger
     requires { number most_ports ledger n ≡ 0 }
     ensures { result ≡ next most_ports ledger n asked connected }
 {
-    let waited = ledger.waiting;
-    let slot = happened(n, waited, asked, connected);
-    let to_asked = slot.asked;
-    let to_connected = slot.connected;
-    let to_fresh = slot.fresh;
-    let to_withdrawn = slot.withdrawn;
-    let waiting = slot.waiting;
+    let slot = happened(n, ledger.waiting, asked, connected);
     let mut next = ledger;
-    next.slots = ledger.slots + 1;
-    raise_table(&mut next.asked, to_asked);
-    raise_table(&mut next.connected, to_connected);
-    raise_table(&mut next.fresh, to_fresh);
-    raise_table(&mut next.withdrawn, to_withdrawn);
-    next.waiting = waiting;
+    next.slots += 1;
+    raise(&mut next.asked, &slot.asked);
+    raise(&mut next.connected, &slot.connected);
+    raise(&mut next.fresh, &slot.fresh);
+    raise(&mut next.withdrawn, &slot.withdrawn);
+    next.waiting = slot.waiting;
     next
 }
 
-// A served slot of n ports is counted, with the sets asked and the sets connected.
-pub fn feed(ledger: Ledger, n: usize, asked: Table, connected: Table) -> Fed
-    ensures { result ≡ feed most_ports ledger n asked connected }
+// A served slot of n ports is counted, with the sets asked and the sets connected; or the ledger is as it was.
+pub fn feed(ledger: Ledger, n: usize, asked: Table, connected: Table) -> Result<Ledger, Refusal>
+    ensures { answer_of ledger result ≡ feed most_ports ledger n asked connected }
 {
-    let number = refusal(n, ledger.slots, over(ledger));
-    if number == 0 {
-        Fed {
-            number: 0,
-            ledger: next(ledger, n, asked, connected),
-        }
-    } else {
-        Fed { number, ledger }
-    }
+    refusal(n, ledger.slots, over(&ledger))?;
+    Ok(next(ledger, n, asked, connected))
 }
 
-// 1 if the row has t.
-pub(crate) fn bit(row: Set, t: usize) -> u32
-    ensures { result ≡ cond (has row t) 1 0 }
+#[tactic(auto, using(crate::proofs::EventLaws::zero_or_one), unfolding(crate::specs::Ledger::figures_of))]
+fn pair_figures(ledger: &Ledger, pair: Pair) -> Figures
+    ensures { result ≡ figures_of most_ports ledger.now pair.i pair.t }
 {
-    if words::holds(row, t) { 1 } else { 0 }
-}
-
-pub(crate) fn hidden(number: u8) -> Shown
-    ensures { result ≡ hidden number }
-{
-    Shown {
-        number,
-        figures: Figures {
-            asked: 0,
-            connected: 0,
-            fresh: 0,
-            withdrawn: 0,
-            isopen: 0,
-        },
-    }
-}
-
-fn pair_figures(ledger: Ledger, i: usize, t: usize) -> Figures
-    requires { (i < most_ports) × (t < most_ports) }
-    ensures { result ≡ figures_of most_ports ledger i t }
-{
-    let at = i * State::MOST + t;
+    let at = pair.at();
     Figures {
         asked: ledger.asked[at],
         connected: ledger.connected[at],
         fresh: ledger.fresh[at],
         withdrawn: ledger.withdrawn[at],
-        isopen: bit(ledger.waiting[i], t),
+        isopen: u32::from(holds(ledger.waiting[pair.i], pair.t)),
     }
 }
 
 // The five figures of the pair (i, t).
-pub fn figures_of(ledger: Ledger, i: Initiator, t: Target) -> Shown
-    ensures { result ≡ shown most_ports ledger i.0 t.0 }
+pub fn figures_of(ledger: Ledger, i: Initiator, t: Target) -> Result<Figures, Refusal>
+    ensures { answer_of no_figures result ≡ shown most_ports ledger i.0 t.0 }
 {
-    if State::MOST <= i.0 {
-        return hidden(11);
-    }
-    if State::MOST <= t.0 {
-        return hidden(11);
-    }
-    Shown {
-        number: 0,
-        figures: pair_figures(ledger, i.0, t.0),
-    }
+    let pair = Pair::of(i, t)?;
+    Ok(pair_figures(&ledger, pair))
 }

@@ -6,6 +6,7 @@ mod book;
 mod counts;
 mod events;
 mod lent;
+mod pair;
 
-pub use book::{Fed, Figures, Ledger, Shown, feed, figures_of};
+pub use book::{Figures, Ledger, feed, figures_of};
 pub use lent::{feed_lent, figures_lent};

@@ -1,10 +1,10 @@
 // A slot's table as a line of text.
 #![tactic(auto)]
 
-ghost use Rattle.std.specs.Prelude.{[], ◌∷◌, ◌≡◌, ◌<◌, min};
+ghost use Rattle.std.specs.Prelude.{[], ◌∷◌, ◌≡◌, ◌<◌, take};
 ghost use Rattle.frames.specs.Part.{most_ports};
 ghost use Rattle.lines.specs.Line.{decimal, separator, target, targets, initiator, initiators, slot_line};
-ghost use Rattle.lines.specs.Put.{Put};
+ghost use Rattle.lines.specs.Put.{Puts};
 
 use ports::{Set, State, Table};
 use words::holds;
@@ -12,100 +12,106 @@ use words::holds;
 // No line of a slot is longer.
 pub const LONGEST: usize = 1024;
 
-// Puts a byte, a text or a number in decimal into the bytes from `at` on, and says where it ends.
-pub fn put_byte(out: &mut [u8], at: usize, b: u8) -> usize
-    ensures { Put out.old at (b ∷ []) out.new result }
-{
-    if at < out.len() {
-        out[at] = b;
-        return at + 1;
+// Text in bytes that are lent, which it fills from the front on; what is put beyond their end is left out.
+// The length stands beside the bytes, for they are lent and there is no heap.
+// By methods, not by Display: `put_line` and `put_initiators` promise their bytes and cannot fail, and a `write!` may.
+#[derive(Drop)]
+pub struct Text<'a> {
+    pub bytes: &'a mut [u8],
+    pub len: usize,
+}
+
+impl Text<'_> {
+    // What was put so far.
+    pub fn written(&self) -> &[u8]
+        ensures { result.now ≡ take self.now.len self.now.bytes.now }
+    {
+        &self.bytes[..self.len.min(self.bytes.len())]
     }
-    at
-}
 
-pub fn put_text(out: &mut [u8], at: usize, text: &[u8]) -> usize
-    ensures { Put out.old at text.now out.new result }
-{
-    let mut end = at;
-    for k in 0..text.len() {
-        end = put_byte(out, end, text[k]);
+    pub fn put_byte(&mut self, b: u8)
+        ensures { Puts self.old (b ∷ []) self.new }
+    {
+        if self.len < self.bytes.len() {
+            self.bytes[self.len] = b;
+            self.len += 1;
+        }
     }
-    end
-}
 
-pub fn put_number(out: &mut [u8], at: usize, x: u64) -> usize
-    ensures { Put out.old at (decimal x) out.new result }
-{
-    let mut digits = [0u8; 20];
-    let n = io::decimal(x, &mut digits);
-    put_text(out, at, &digits[..n])
-}
-
-fn put_separator(out: &mut [u8], at: usize, set: Set, t: usize) -> usize
-    requires { t < most_ports }
-    ensures { Put out.old at (separator set t) out.new result }
-{
-    if set % (1 << t) == 0 {
-        return at;
+    #[tactic(auto, using(crate::proofs::Putting::nothing_put, crate::proofs::Putting::bytes_all))]
+    pub fn put_text(&mut self, text: &[u8])
+        ensures { Puts self.old text.now self.new }
+    {
+        for &b in text {
+            self.put_byte(b);
+        }
     }
-    put_byte(out, at, b',')
-}
 
-fn put_target(out: &mut [u8], at: usize, set: Set, t: usize) -> usize
-    requires { t < most_ports }
-    ensures { Put out.old at (target set t) out.new result }
-{
-    if holds(set, t) {
-        let next = put_separator(out, at, set, t);
-        return put_number(out, next, t as u64);
+    pub fn put_number(&mut self, x: u64)
+        ensures { Puts self.old (decimal x) self.new }
+    {
+        let mut digits = [0; 20];
+        let n = io::decimal(x, &mut digits);
+        self.put_text(&digits[..n]);
     }
-    at
-}
 
-fn put_targets(out: &mut [u8], at: usize, set: Set) -> usize
-    ensures { Put out.old at (targets most_ports set) out.new result }
-{
-    if set == 0 {
-        return put_byte(out, at, b'-');
+    fn put_separator(&mut self, set: Set, t: usize)
+        requires { t < most_ports }
+        ensures { Puts self.old (separator set t) self.new }
+    {
+        if set % (1 << t) != 0 {
+            self.put_byte(b',');
+        }
     }
-    let mut end = at;
-    for t in 0..State::MOST {
-        end = put_target(out, end, set, t);
+
+    fn put_target(&mut self, set: Set, t: usize)
+        requires { t < most_ports }
+        ensures { Puts self.old (target set t) self.new }
+    {
+        if holds(set, t) {
+            self.put_separator(set, t);
+            self.put_number(t as u64);
+        }
     }
-    end
-}
 
-fn put_initiator(out: &mut [u8], at: usize, i: usize, set: Set) -> usize
-    ensures { Put out.old at (initiator most_ports i set) out.new result }
-{
-    let number = put_byte(out, at, b' ');
-    let colon = put_number(out, number, i as u64);
-    let targets = put_byte(out, colon, b':');
-    put_targets(out, targets, set)
-}
-
-fn rows(n: usize) -> usize
-    ensures { result ≡ min n most_ports }
-{
-    if n < State::MOST { n } else { State::MOST }
-}
-
-// Puts all but the label of a line into the bytes from `at` on, and says where it ends.
-pub fn put_initiators(out: &mut [u8], at: usize, n: usize, sets: Table) -> usize
-    ensures { Put out.old at (initiators most_ports n sets) out.new result }
-{
-    let mut end = at;
-    let count = rows(n);
-    for i in 0..count {
-        end = put_initiator(out, end, i, sets[i]);
+    #[tactic(auto, unfolding(crate::specs::Line::targets))]
+    fn put_targets(&mut self, set: Set)
+        ensures { Puts self.old (targets most_ports set) self.new }
+    {
+        if set == 0 {
+            self.put_byte(b'-');
+            return;
+        }
+        // By index: the number is what is asked of the set, and what is put.
+        for t in 0..State::MOST {
+            self.put_target(set, t);
+        }
     }
-    put_byte(out, end, b'\n')
-}
 
-// The line of a slot, whole.
-pub fn put_line(out: &mut [u8], at: usize, slot: u32, n: usize, sets: Table) -> usize
-    ensures { Put out.old at (slot_line most_ports slot n sets) out.new result }
-{
-    let end = put_number(out, at, slot as u64);
-    put_initiators(out, end, n, sets)
+    fn put_initiator(&mut self, i: usize, set: Set)
+        ensures { Puts self.old (initiator most_ports i set) self.new }
+    {
+        self.put_byte(b' ');
+        self.put_number(i as u64);
+        self.put_byte(b':');
+        self.put_targets(set);
+    }
+
+    // All but the label of a line.
+    pub fn put_initiators(&mut self, n: usize, sets: Table)
+        ensures { Puts self.old (initiators most_ports n sets) self.new }
+    {
+        for (i, &set) in sets[..n.min(State::MOST)].iter().enumerate() {
+            self.put_initiator(i, set);
+        }
+        self.put_byte(b'\n');
+    }
+
+    // The line of a slot, whole.
+    pub fn put_line(&mut self, slot: u32, n: usize, sets: Table)
+        ensures { Puts self.old (slot_line most_ports slot n sets) self.new }
+    {
+        self.put_number(u64::from(slot));
+        self.put_initiators(n, sets);
+    }
 }

@@ -17,7 +17,7 @@ use Rattle.frames.specs.Part.{most_ports, frame_len}
 use Rattle.ports.specs.Modes.{diagonal_mode, mode_of}
 use Rattle.ports.specs.Due.{wrong_limit, due_number, declined}
 use Rattle.ports.specs.declared.state.State.{State}
-use Rattle.ports.specs.declared.answer.Stepped.{Stepped}
+use Rattle.ports.specs.Answer.{Stepped}
 use Rattle.lcf.specs.Advance.{advance}
 use Rattle.lcf.specs.Slot.{slot_on_tables}
 use Rattle.ports.proofs.Numbers as tables

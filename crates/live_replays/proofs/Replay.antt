@@ -11,7 +11,7 @@ use Rattle.laws.specs.Steps.{steps}
 use Rattle.laws.proofs.Loops.{same_steps}
 use Rattle.frames.specs.Part.{most_ports}
 use Rattle.ports.specs.declared.state.State.{State}
-use Rattle.ports.specs.declared.answer.Stepped.{Stepped}
+use Rattle.ports.specs.Answer.{Stepped}
 use Rattle.shelf.specs.Step.{refusal, stepped}
 use Rattle.shelf.specs.Unanswered.{unanswered}
 use Rattle.shelf.proofs.Refusals.{taken}

@@ -9,30 +9,12 @@ use native.Mathlib.Omega.{arith}
 use lib.Bits.{bit_xor, xor_comm, xor_shifted}
 use lib.Dec.{lit<}
 use lib.Pow.{pow-lt}
-use lib.ListN.{length, get_or, set, length-set}
-use lib.Seq.{get_or-set_same, get_or-set_other}
+use lib.ListN.{length, get_or}
 use Rattle.laws.specs.Steps.{steps}
 use Rattle.laws.proofs.Steps.{upto}
 use Rattle.words.specs.Check.{crc_bit}
 use Rattle.long_check.specs.Zeros.{passed, zeros, Table, Tables, Doubled, Filled}
 use Rattle.long_check.proofs.Linear.{Word, passed_xor, passed_zero, passed_double}
-
-module _ (from n x : ℕ) (s : List ℕ) where
-  pub none_doubled : Doubled from n 0 x s s
-  none_doubled = (refl, (λ i h. refl), (λ i h. absurd (omega arith)))
-
-  pub one_doubled : (m : ℕ) (t : List ℕ) → from + n + m < length s → m < n → Doubled from n m x s t
-      → Doubled from n (m + 1) x s (set t (from + n + m) (bit_xor (get_or t (from + m) 0) x))
-  one_doubled m t room h (long, below, above) =
-      let at = from + n + m in
-      let y = bit_xor (get_or t (from + m) 0) x in
-      let here : get_or (set t at y) at 0 ≡ bit_xor (get_or s (from + m) 0) x =
-      get_or-set_same t at y 0 (omega arith) ∙ ap (λ (z : ℕ). bit_xor z x) (below (from + m) (omega arith)) in (
-        length-set t at y ∙ long,
-        (λ i l. get_or-set_other t at i y 0 (λ e. omega arith) ∙ below i l),
-        rw (add-one m) (upto (λ i. get_or (set t at y) (from + n + i) 0 ≡ bit_xor (get_or s (from + i) 0) x) m
-            (λ i l. get_or-set_other t at (from + n + i) y 0 (λ e. omega arith) ∙ above i l) here),
-      )
 
 module _ (from n : ℕ) where
   -- the byte 0

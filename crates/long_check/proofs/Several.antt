@@ -2,18 +2,21 @@
 use mathlib.Core.Path.{◌≡◌, refl, sym, ap, ap₂, ◌∙◌}
 use mathlib.Core.List.{List, [], ◌∷◌, ◌++◌}
 use Prim.Native.Nat.{ℕ, zero, suc, ◌+◌, ◌*◌, ◌/◌, ◌%◌, ◌≤◌, ◌<◌}
-use native.Mathlib.Nat.{div-add-mod', add-zero, mod-lt, mul-suc}
+use native.Mathlib.Nat.{div-add-mod', add-zero, mod-lt, mod-eq_of_lt, mul-suc}
 use native.Mathlib.Omega.{arith}
 use borrow.Author.Tests.{lt-ltb}
 use lib.Bits.{bit_xor, xor_zero_l, xor_zero_r, xor_comm, xor_lt, xor_block, xor_shifted, xor_shr, xor_mod}
 use lib.Dec.{lit<}
-use lib.ListN.{length, get_or, take, drop, length-drop, take-append-drop}
-use lib.Seq.{take-add, drop-drop, length-take-le}
+use lib.ListN.{length, get_or, take, drop, take-append-drop}
+use lib.Seq.{take-add, drop-drop}
+use Rattle.std.specs.Int.{w16, to_be_bytes}
+use Rattle.std.specs.Simd.{first_chunks}
+use Rattle.std.specs.Prelude.{fold}
 use Rattle.laws.specs.Steps.{steps}
 use Rattle.laws.specs.Bytes.{Bytes}
 use Rattle.words.specs.Check.{crc_byte, crc_from}
 use Rattle.words.proofs.BytesAt.{four_at}
-use Rattle.words.proofs.CheckLaws.{from_small}
+use Rattle.words.proofs.CheckLaws.{from_small, crc_is_fold}
 use Rattle.long_check.specs.Zeros.{passed, zeros, After}
 use Rattle.long_check.proofs.Linear.{Word, word_xor, assoc, passed-word, passed_xor, passed_add, lifted}
 
@@ -46,6 +49,10 @@ two_bytes n c w =
     let up : passed n (a * 256) ≡ passed (n + 8) a = ap (passed n) (sym (lifted 8 a (omega arith))) ∙ sym (passed_add n 8 a) in
     ap (passed n) (sym (div-add-mod' c 256) ∙ sym (xor_shifted a 8 b (low_small c)))
     ∙ passed_xor n (a * 256) b (high_word a small) (low_word b (low_small c)) ∙ ap (λ (x : ℕ). bit_xor x (passed n b)) up
+
+-- a word's bytes
+pub bytes_of : (c : ℕ) → Word c → to_be_bytes w16 c ≡ c / 256 ∷ c % 256 ∷ []
+bytes_of c w = ap (λ (x : ℕ). x ∷ c % 256 ∷ []) (mod-eq_of_lt (high_small c w))
 
 -- a byte meets the high byte of the check
 pub one_byte : (c b : ℕ) → Word c → b < 256 → crc_byte c b ≡ bit_xor (passed 16 (bit_xor (c / 256) b)) (c % 256 * 256)
@@ -182,19 +189,18 @@ eight_after s i c w room p q =
     let whole = parts 4 4 i s ∙ ap₂ ◌++◌ (four_at s i (omega arith)) (four_at s (i + 4) (omega arith)) in
     rw whole (by_itself _ _ c w q.1 p.1 p.0 q.0)
 
-pub sixteen_after : (s : List ℕ) (i c : ℕ) {x y : ℕ} → Word c → i + 16 ≤ length s → After 0 (take 16 (drop i s)) x → y ≡ passed 128 c
-    → bit_xor x y ≡ crc_from c (take 16 (drop i s))
+pub sixteen_after : (s : List ℕ) (c : ℕ) {x y : ℕ} → Word c → length s ≡ 16 → After 0 s x → y ≡ passed 128 c → bit_xor x y ≡ crc_from c s
 unfolding crc_from
-sixteen_after s i c w room p e =
-    let next = take 16 (drop i s) in
-    let long : length next ≡ 16 = length-take-le 16 (drop i s) (omega (arith, length-drop i s)) in
-    (by_itself [] next c w none p.1 p.0 (e ∙ ap (λ (n : ℕ). passed (8 * n) c) (sym long))).0
+sixteen_after s c w long p e = (by_itself [] s c w none p.1 p.0 (e ∙ ap (λ (n : ℕ). passed (8 * n) c) (sym long))).0
 
--- and the bytes behind the next n
-pub from-part : (n i c : ℕ) (s : List ℕ) → crc_from (crc_from c (take n (drop i s))) (drop (i + n) s) ≡ crc_from c (drop i s)
-from-part n i c s =
-    ap (crc_from (crc_from c (take n (drop i s)))) (sym (drop-drop n i s)) ∙ sym (from_append (take n (drop i s)) (drop n (drop i s)) c)
-    ∙ ap (crc_from c) (take-append-drop n (drop i s))
+-- by blocks of sixteen, and the bytes behind them
+pub by_blocks : (n : ℕ) (s : List ℕ) (c : ℕ) → fold crc_byte (fold crc_from c (first_chunks 16 n s)) (drop (n * 16) s) ≡ crc_from c s
+by_blocks zero s c = sym (crc_is_fold s c)
+by_blocks (suc n) s c =
+    let next = crc_from c (take 16 s) in
+    let more : suc n * 16 ≡ 16 + n * 16 = omega arith in
+    ap (fold crc_byte (fold crc_from next (first_chunks 16 n (drop 16 s)))) (ap (λ (k : ℕ). drop k s) more ∙ sym (drop-drop (n * 16) 16 s))
+    ∙ by_blocks n (drop 16 s) next ∙ sym (from_append (take 16 s) (drop 16 s) c) ∙ ap (crc_from c) (take-append-drop 16 s)
 
 -- the first tables stand for whole bytes of zeros
 pub near : (k n : ℕ) → k < 8 → 8 * k + 16 ≡ n → zeros k ≡ n

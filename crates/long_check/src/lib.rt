@@ -4,4 +4,4 @@
 mod check;
 mod tables;
 
-pub use check::{long_crc, long_intact, long_seal};
+pub use check::{ByTables, long_crc};

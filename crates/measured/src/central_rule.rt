@@ -30,17 +30,23 @@ fn asking(live: Table) -> Work
     }
 }
 
+// A name for each way, since C calls both: one that took the way would have a clause on it that is longer than these.
+#[tactic(auto, unfolding(crate::specs::Rule::sets_after))]
 pub fn measured_plain(n: u32, i: u32, j: u32, live: &[u8], sets: &mut [u8])
     ensures { sets.new ≡ sets_after most_ports n i j live.now sets.old }
 {
-    let after = serve_targets(state_at(n, i, j), asking(table_in(live)));
-    let held = after.held;
-    put_table(held, sets);
+    put_table(
+        serve_targets(state_at(n, i, j), asking(table_in(live))).held,
+        sets,
+    );
 }
 
+#[tactic(auto, unfolding(crate::specs::Rule::sets_after))]
 pub fn measured_columns(n: u32, i: u32, j: u32, live: &[u8], sets: &mut [u8])
     ensures { sets.new ≡ sets_after most_ports n i j live.now sets.old }
 {
-    let held = serve_columns(state_at(n, i, j), asking(table_in(live)));
-    put_table(held, sets);
+    put_table(
+        serve_columns(state_at(n, i, j), asking(table_in(live))),
+        sets,
+    );
 }

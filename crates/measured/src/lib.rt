@@ -3,12 +3,13 @@
 
 mod central_rule;
 
-ghost use Rattle.std.specs.Prelude.{◌≡◌, length};
+ghost use Rattle.std.specs.Prelude.{◌≡◌};
 ghost use Rattle.words.specs.Check.{crc_of};
 ghost use Rattle.measured.specs.Checks.{checks_of, slot_checks};
 
 pub use central_rule::{measured_columns, measured_plain};
 
+// A name for each check, since C calls both.
 pub fn measured_crc(bytes: &[u8]) -> u16
     ensures { result ≡ crc_of bytes.now }
 {
@@ -21,8 +22,8 @@ pub fn measured_long_crc(bytes: &[u8]) -> u16
     long_check::long_crc(bytes)
 }
 
-fn both(part: &[u8]) -> u16
-    requires { length part.now ≡ 9 }
+// Of a configuration frame without its check, and of a grant frame's part of the same bytes.
+fn both(part: &[u8; 9]) -> u16
     ensures { result ≡ checks_of part.now }
 {
     words::crc(part) ^ words::crc(&part[..5])
@@ -35,11 +36,6 @@ pub fn measured_checks(bytes: &[u8]) -> u16
     if bytes.len() != 144 {
         return 0;
     }
-    let mut sum: u16 = 0;
-    for h in 0..16usize {
-        let at = h * 9;
-        let end = at + 9;
-        sum = sum ^ both(&bytes[at..end]);
-    }
-    sum
+    let (parts, _) = bytes.as_chunks();
+    parts.iter().fold(0, |sum, part| sum ^ both(part))
 }

@@ -1,4 +1,4 @@
-// What the tests and the benchmark call beside the C form.
+// What the tests and the benchmark call beside the C form: C has a name for each, so each is one call of the crate below.
 #![tactic(auto)]
 
 ghost use Rattle.std.specs.Prelude.{◌≡◌};

@@ -8,7 +8,7 @@ use lib.Dec.{eqb}
 use lib.ListN.{get_or}
 use Rattle.laws.specs.Sets.{has, tabled}
 use Rattle.laws.proofs.Rows.{length_tabled}
-use Rattle.frames.specs.Frame.{Answer}
+use Rattle.refusals.specs.Numbers.{Answer}
 use Rattle.frames.specs.Part.{most_ports, host_number}
 use Rattle.frames.specs.declared.config.Config.{Config}
 use Rattle.ports.specs.Owners.{of}

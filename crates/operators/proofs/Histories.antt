@@ -5,7 +5,7 @@ use Prim.Native.Nat.{ℕ, ◌≤◌}
 use lib.ListN.{get_or}
 use Rattle.frames.specs.Part.{most_ports}
 use Rattle.ports.specs.declared.state.State.{State}
-use Rattle.ports.specs.declared.answer.Answer.{Answer}
+use Rattle.ports.specs.Answer.{Answer}
 use Rattle.demands.specs.History.{InEach, ByValue}
 use Rattle.demands.specs.SlotCall as slots
 use Rattle.demands.specs.LentCall as lent

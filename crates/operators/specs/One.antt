@@ -1,19 +1,19 @@
 -- A shelf of one operator, and the definitions of rules 1 and 2, of the slot and of the sets asked as they stood before ports had owners.
 use Rattle.std.specs.Prelude.{◌≡◌, cond, List, ℕ, ◌<◌, eqb, length, get_or, replicate}
 use Rattle.laws.specs.Sets.{tabled}
+use Rattle.refusals.specs.Numbers.{Answer}
 use Rattle.ports.specs.Owners.{operator}
 use Rattle.ports.specs.Tables.{within}
 use Rattle.ports.specs.Due.{declined}
 use Rattle.ports.specs.declared.state.State.{State}
 use Rattle.ports.specs.declared.state.Mode.{Mode}
-use Rattle.ports.specs.declared.answer.Stepped.{Stepped}
+use Rattle.ports.specs.Answer.{Stepped}
 use Rattle.hearing.specs.Heard.{present}
 use Rattle.lcf.specs.Slot.{slot_on_tables}
 use Rattle.shelf.specs.Asked.{block_number}
 use Rattle.shelf.specs.Hosts.{hosts_of}
 use Rattle.shelf.specs.Grants.{granted}
 use Rattle.shelf.specs.Step.{refusal}
-use Rattle.shelf.specs.declared.asked.Asked.{Asked}
 use Rattle.shelf.specs.declared.hosts.Hosts.{Hosts}
 
 -- all of n ports are one operator's, whatever the owners say at or above n
@@ -43,9 +43,9 @@ output_one m st slot mode block link out =
     cond (eqb answer.number 0) (granted st.ports (hosts_of m st.ports block).heard link answer.sets out) out
 
 -- the sets asked
-unfoldable pub sets_asked_one : ℕ → ℕ → List ℕ → Asked
+unfoldable pub sets_asked_one : ℕ → ℕ → List ℕ → Answer (List ℕ)
 sets_asked_one m n block =
     let hosts = hosts_of m n block in
     cond (eqb (block_number m n block) 0)
-    (record { number = 0; sets = within n (counted_one n hosts.heard hosts.ben hosts.req) })
-    (record { number = block_number m n block; sets = replicate m 0 })
+    (record { number = 0; fields = within n (counted_one n hosts.heard hosts.ben hosts.req) })
+    (record { number = block_number m n block; fields = replicate m 0 })

@@ -3,7 +3,7 @@ use Rattle.std.specs.Prelude.{◌≡◌, Bool, true, List, ℕ, ◌*◌, ◌<◌
 use Rattle.frames.specs.Part.{told_len}
 use Rattle.ports.specs.Owners.{of}
 use Rattle.ports.specs.declared.state.State.{State}
-use Rattle.ports.specs.declared.answer.Stepped.{Stepped}
+use Rattle.ports.specs.Answer.{Stepped}
 use Rattle.demands.specs.Block.{frame_part}
 use Rattle.demands.specs.SlotCall.{SlotCall, called, output_after}
 use Rattle.demands.specs.SlotShare.{grant_part}

@@ -1,12 +1,12 @@
 -- What the number of a slot that is served says, over any greatest port count.
-use Rattle.std.proofs.Common.{◌≡◌, ℕ, ◌^◌, ◌≤◌, Bool, true, false, cond, ◌&&◌, ◌||◌, eqb, ltb, leb, sym, refl, ap, ◌∙◌, arith, ltb-false, le-ltb, eqb-true, leb-false}
+use Rattle.std.proofs.Common.{◌≡◌, ℕ, ◌^◌, ◌≤◌, Bool, true, false, cond, ◌&&◌, ◌||◌, ltb, leb, sym, refl, ap, ◌∙◌, arith, ltb-false, le-ltb, leb-false}
 use borrow.Author.Tests.{lt-leb}
-use Rattle.laws.proofs.Tests.{neither, arms}
+use Rattle.laws.proofs.Tests.{neither}
 use Rattle.ports.specs.Ready.{Ready}
 use Rattle.ports.specs.Due.{behind, wrong_limit, due_number, orderly}
 use Rattle.ports.specs.declared.state.State.{State}
 use Rattle.ports.specs.declared.state.Mode.{Mode}
-use Rattle.ports.specs.declared.state.Mode.TheVariants.{Central, Distributed}
+use Rattle.ports.specs.declared.state.Mode.TheVariants.{Distributed}
 
 passed : (a b c d e : Bool) → ◌≡◌ {A = ℕ} (cond a 1 (cond b 2 (cond c 3 (cond d 4 (cond e 5 0))))) 0 → (a ≡ false) × (b ≡ false) × (e ≡ false)
 passed true b c d e h = absurd (omega arith)
@@ -48,13 +48,6 @@ due_now m st slot mode other e limit =
     let late = behind st slot in
     let p = passed (ltb n 1 || ltb m n) (leb n st.initiator.0 || leb n st.target.0) (leb 1 late && leb late (2 ^ 31)) (ltb (2 ^ 31) late) (wrong_limit m mode) e in
     rw (on_time st, p.0, p.1, limit)
-
--- an orderly state can be served, and one that can be served is orderly as it is
-pub orderly_ready : (m : ℕ) (st : State) → 1 ≤ m → Ready m (orderly m st)
-unfolding orderly
-orderly_ready m st some =
-    arms (Ready m) (eqb (due_number m st st.due Central) 0) _ _ (λ e. (served m st st.due Central (eqb-true _ 0 e)).ready)
-    (λ _. record { ports = some; initiator = omega arith; target = omega arith })
 
 pub orderly_same : (m : ℕ) (st : State) → Ready m st → orderly m st ≡ st
 unfolding orderly due_number wrong_limit

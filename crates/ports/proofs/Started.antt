@@ -28,7 +28,7 @@ module _ (operators : List ℕ) where
   owner_past n p past = not_one n p (refuted _ (λ e. omega (arith, (gathered-has (λ p. eqb (get_or operators p 0) 1) n p e).0)))
 
   module _ (m n due : ℕ) (some : 1 ≤ n) (most : n ≤ m) where
-    pub fresh_is : ((p : ℕ) → p < n → get_or operators p 0 ≤ 1) → fresh m n due operators ≡ record { number = 0; state = at_first n due (owners_of operators n) }
+    pub fresh_is : ((p : ℕ) → p < n → get_or operators p 0 ≤ 1) → fresh m n due operators ≡ record { number = 0; fields = at_first n due (owners_of operators n) }
     unfolding fresh
     fresh_is named = rw (
       le-ltb n 1 some,
@@ -39,6 +39,6 @@ module _ (operators : List ℕ) where
     )
 
     -- 15 for an operator number above 1 on a port below n, and a state of zeros
-    pub other_operator : (p : ℕ) → p < n → 1 < get_or operators p 0 → fresh m n due operators ≡ record { number = 15; state = at_first 0 0 0 }
+    pub other_operator : (p : ℕ) → p < n → 1 < get_or operators p 0 → fresh m n due operators ≡ record { number = 15; fields = at_first 0 0 0 }
     unfolding fresh
     other_operator p p< two = rw (le-ltb n 1 some, le-ltb m n most, true_some _ n p p< (lt-ltb 1 _ two))

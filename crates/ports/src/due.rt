@@ -1,9 +1,12 @@
 // Whether a slot is due: the numbers 1 to 5.
 ghost use Rattle.std.specs.Prelude.{◌≡◌};
+ghost use Rattle.refusals.specs.Numbers.{number_of};
 ghost use Rattle.frames.specs.Part.{most_ports};
-ghost use Rattle.ports.specs.Due.{behind, wrong_limit, due_number, orderly};
+ghost use Rattle.ports.specs.Due.{behind, wrong_limit, due_number};
 
-use crate::state::{Initiator, Mode, State, Target};
+use crate::many::wrong_ports;
+use crate::state::{Mode, State};
+use refusals::Refusal;
 
 fn behind(state: State, slot: u32) -> u32
     ensures { result ≡ behind state slot }
@@ -21,42 +24,25 @@ fn wrong_limit(mode: Mode) -> bool
     }
 }
 
-// The numbers 1 to 5, or 0 if the slot is to be served.
-pub fn due_number(state: State, slot: u32, mode: Mode) -> u8
-    ensures { result ≡ due_number most_ports state slot mode }
+// The slot is to be served, or one of the numbers 1 to 5.
+pub fn check_due(state: State, slot: u32, mode: Mode) -> Result<(), Refusal>
+    ensures { number_of result ≡ due_number most_ports state slot mode }
 {
-    if (state.ports < 1) | (State::MOST < state.ports) {
-        return 1;
+    if wrong_ports(state.ports) {
+        return Err(Refusal::BadPorts);
     }
     if (state.ports <= state.initiator.0) | (state.ports <= state.target.0) {
-        return 2;
+        return Err(Refusal::BadOffset);
     }
     let late = behind(state, slot);
     if (1 <= late) & (late <= 2147483648) {
-        return 3;
+        return Err(Refusal::SlotStale);
     }
     if 2147483648 < late {
-        return 4;
+        return Err(Refusal::SlotEarly);
     }
     if wrong_limit(mode) {
-        return 5;
+        return Err(Refusal::BadLimit);
     }
-    0
-}
-
-// The state, or one of a single port: what is total on states can be served.
-pub fn orderly(state: State) -> State
-    ensures { result ≡ orderly most_ports state }
-{
-    if due_number(state, state.due, Mode::Central) == 0 {
-        state
-    } else {
-        State {
-            ports: 1,
-            initiator: Initiator(0),
-            target: Target(0),
-            due: state.due,
-            owners: state.owners,
-        }
-    }
+    Ok(())
 }

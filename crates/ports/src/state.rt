@@ -1,10 +1,13 @@
 // The state of a shelf, and the mode of a slot.
 ghost use Rattle.std.specs.Prelude.{◌≡◌, replicate};
+ghost use Rattle.refusals.specs.Numbers.{answer_of};
 ghost use Rattle.frames.specs.Part.{most_ports};
 ghost use Rattle.ports.specs.Ready.{at_first, fresh};
 ghost use Rattle.ports.specs.Modes.{mode_of};
 
-use crate::operators::{no_operator, owners_of};
+use crate::many::wrong_ports;
+use crate::operators::{any_above, owners_of};
+use refusals::Refusal;
 
 // A set of ports, bit p for port p; and a row of such sets for each port.
 pub type Set = u16;
@@ -42,23 +45,18 @@ pub enum Mode {
 }
 
 // The mode that a number names.
-pub fn mode_of(mode: u32) -> Mode
-    ensures { result ≡ mode_of most_ports mode }
-{
-    if mode == 0 {
-        return Mode::Central;
-    }
-    if mode == State::MOST as u32 + 1 {
-        return Mode::Diagonal;
-    }
-    Mode::Distributed(mode)
-}
+impl From<u32> for Mode {
+    ghost from_gives = { λ mode m. m ≡ mode_of most_ports mode };
 
-// A fresh state, or number 1 or 15 and a state of zeros.
-#[derive(Clone, Copy)]
-pub struct Fresh {
-    pub number: u8,
-    pub state: State,
+    fn from(mode: u32) -> Mode {
+        if mode == 0 {
+            return Mode::Central;
+        }
+        if mode == State::MOST as u32 + 1 {
+            return Mode::Diagonal;
+        }
+        Mode::Distributed(mode)
+    }
 }
 
 fn at_first(ports: usize, due: u32, owners: Set) -> State
@@ -78,25 +76,17 @@ impl State {
     pub const MOST: usize = frames::Ports::MOST;
 
     // With an operator number for each port, of which those at or above the ports are ignored.
-    pub fn fresh(ports: usize, due: u32, operators: [u8; State::MOST]) -> Fresh
-        ensures { result ≡ fresh most_ports ports due operators }
+    pub fn fresh(ports: usize, due: u32, operators: [u8; State::MOST]) -> Result<State, Refusal>
+        ensures { answer_of (at_first 0 0 0) result ≡ fresh most_ports ports due operators }
     {
-        if (ports < 1) | (State::MOST < ports) {
-            return Fresh {
-                number: 1,
-                state: at_first(0, 0, 0),
-            };
+        if wrong_ports(ports) {
+            return Err(Refusal::BadPorts);
         }
-        if no_operator(operators, ports) {
-            return Fresh {
-                number: 15,
-                state: at_first(0, 0, 0),
-            };
+        let given = &operators[..ports];
+        if any_above(given) {
+            return Err(Refusal::BadOperator);
         }
-        Fresh {
-            number: 0,
-            state: at_first(ports, due, owners_of(operators, ports)),
-        }
+        Ok(at_first(ports, due, owners_of(given)))
     }
 
     pub fn empty_table() -> Table

@@ -8,11 +8,7 @@ use crate::state::{Moved, Set, State, Table};
 pub fn at_most(ports: usize) -> usize
     ensures { result ≡ min ports most_ports }
 {
-    if ports < State::MOST {
-        ports
-    } else {
-        State::MOST
-    }
+    ports.min(State::MOST)
 }
 
 // The row's bits below n.
@@ -23,7 +19,8 @@ fn clip(row: Set, n: usize) -> Set
     (row as Moved % (1 << n)) as Set
 }
 
-// The table as n ports see it: rows and bits at or above n are ignored.
+// The table as n ports see it: rows and bits at or above n are ignored. By index, for the rows from n on stay empty: over the first n
+// rows of both tables it would be no shorter.
 pub fn within(n: usize, rows: Table) -> Table
     ensures { result ≡ within n rows }
 {

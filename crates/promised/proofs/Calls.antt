@@ -14,7 +14,7 @@ use Rattle.laws.specs.Bytes.{row}
 use Rattle.laws.proofs.Tests.{both, every, refuted}
 use Rattle.frames.specs.Part.{most_ports}
 use Rattle.ports.specs.declared.state.State.{State}
-use Rattle.ports.specs.declared.answer.Answer.{Answer}
+use Rattle.ports.specs.Answer.{Answer}
 use Rattle.lcf.specs.Advance.{advance}
 use Rattle.demands.specs.SlotCall as frames
 use Rattle.demands.specs.Numbers.{Row, given, passed}

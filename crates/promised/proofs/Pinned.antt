@@ -12,12 +12,12 @@ use Rattle.laws.specs.Bytes.{Bytes, big_endian}
 use Rattle.laws.proofs.Bytes.{number_big}
 use Rattle.laws.proofs.Members.{gathered-has}
 use Rattle.frames.specs.Part.{most_ports, frame_len, told_len}
+use Rattle.refusals.specs.Numbers.{Answer}
 use Rattle.ports.specs.Modes.{diagonal_mode, mode_of}
 use Rattle.lent.specs.Filled.{fitted_number, filled_after}
 use Rattle.ports.specs.Owners.{owners_of}
 use Rattle.ports.specs.Ready.{at_first, fresh}
 use Rattle.ports.specs.declared.state.State.{State}
-use Rattle.ports.specs.declared.state.Fresh.{Fresh}
 use Rattle.ports.proofs.Started.{fresh_is}
 use Rattle.demands.specs.Block.{QenAlone}
 use Rattle.demands.specs.SlotCall as frames
@@ -57,7 +57,7 @@ module _ (m n due : ℕ) (shelf : m ≤ most_ports) (some : 1 ≤ n) (most : n �
   abbrev made : List ℕ
   made = n ∷ 0 ∷ 0 ∷ big_endian 4 due ++ big_endian 2 (owners_of operators n)
 
-  abbrev is : fresh m n due operators ≡ record { number = 0; state = at_first n due (owners_of operators n) }
+  abbrev is : fresh m n due operators ≡ record { number = 0; fields = at_first n due (owners_of operators n) }
   is = fresh_is operators m n due some most operated
 
   pub fresh_bytes : (state : List ℕ) → length operators ≡ m → length state ≡ state_len
@@ -68,12 +68,12 @@ module _ (m n due : ℕ) (shelf : m ≤ most_ports) (some : 1 ≤ n) (most : n �
       rw (eq-eqb _ _ one_each, eq-eqb _ _ nine, is) (refl, ap (λ (x : ℕ). x ∷ 0 ∷ 0 ∷ big_endian 4 due ++ big_endian 2 (owners_of operators n)) byte)
 
   module _ (due< : due < 2 ^ 32) where
-    pub fresh_reads : state_of made ≡ (fresh m n due operators).state
+    pub fresh_reads : state_of made ≡ (fresh m n due operators).fields
     unfolding state_of big_endian
     fresh_reads =
         let d = number_big 4 due due< in
         let o = number_big 2 (owners_of operators n) (omega (arith, small n (owners_of operators n) (λ p e. (gathered-has (λ p. eqb (get_or operators p 0) 1) n p e).0), pow_mono most, pow_mono shelf)) in
-        (λ k. record { ports = n; initiator = record { 0 = 0 }; target = record { 0 = 0 }; due = d k; owners = o k }) ∙ ap (λ (f : Fresh). f.state) (sym is)
+        (λ k. record { ports = n; initiator = record { 0 = 0 }; target = record { 0 = 0 }; due = d k; owners = o k }) ∙ ap (λ (f : Answer State). f.fields) (sym is)
 
     pub fresh_serves_in_bytes : (d : CCall) → Kept m made d → Lengths m made d → d.handed.slot ≡ due → d.handed.mode ≤ diagonal_mode m
         → length d.handed.block ≡ n * frame_len n → n * told_len n ≤ length d.handed.out → number d ≡ 0

@@ -2,7 +2,7 @@
 -- number, the sets two bytes each.
 use Rattle.std.specs.Prelude.{ℕ, Bool, ◌&&◌, cond, List, eqb, length}
 use Rattle.ports.specs.Modes.{mode_of}
-use Rattle.ports.specs.declared.answer.Stepped.{Stepped}
+use Rattle.ports.specs.Answer.{Stepped}
 use Rattle.table_bytes.specs.State.{state_len, state_of}
 use Rattle.table_bytes.specs.Table.{table_len}
 use Rattle.bellacush.specs.Slot.{word_of, state_after, table_after}

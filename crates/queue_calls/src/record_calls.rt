@@ -8,11 +8,12 @@ ghost use Rattle.queue_entries.specs.Counting.{counted};
 ghost use Rattle.queue_calls.specs.Count.{count_word};
 
 use ports::{Initiator, Target};
+use refusals::number_of;
 
 pub fn bellacush_new_queues(records: &mut [u32], n: u32, pool: usize) -> u32
     ensures { (result ≡ new_number most_ports most_cells cell_len records.old n pool) × (records.new ≡ new_words most_ports most_cells cell_len records.old n pool) }
 {
-    queue_records::new_queues(records, n as usize, pool) as u32
+    u32::from(number_of(queue_records::new_queues(records, n as usize, pool)))
 }
 
 pub fn bellacush_add_cell(
@@ -24,22 +25,24 @@ pub fn bellacush_add_cell(
 ) -> u32
     ensures { (result ≡ add_number most_ports most_cells cell_len records.old initiator target cell.now pool.old) × (records.new ≡ add_words most_ports most_cells cell_len records.old initiator target cell.now pool.old) × (pool.new ≡ add_pool most_ports most_cells cell_len records.old initiator target cell.now pool.old) }
 {
-    queue_entries::add(
+    u32::from(number_of(queue_entries::add(
         records,
         Initiator(initiator as usize),
         Target(target as usize),
         cell,
         pool,
-    ) as u32
+    )))
 }
 
 pub fn bellacush_count_cells(records: &[u32], initiator: u32, target: u32) -> u32
     ensures { result ≡ count_word (counted most_ports most_cells records.now initiator target) }
 {
-    let counted = queue_entries::count(
+    match queue_entries::count(
         records,
         Initiator(initiator as usize),
         Target(target as usize),
-    );
-    counted.number as u32 + 256 * counted.cells as u32
+    ) {
+        Ok(cells) => 256 * cells as u32,
+        Err(why) => u32::from(why.number()),
+    }
 }

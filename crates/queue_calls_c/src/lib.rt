@@ -1,4 +1,5 @@
 // The queues of the compact shelf, as C calls them.
+// C has a name for each, so each is one call of the crate below.
 #![tactic(auto)]
 
 ghost use Rattle.std.specs.Prelude.{◌≡◌};

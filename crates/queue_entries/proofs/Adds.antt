@@ -6,20 +6,16 @@ use Prim.Native.Nat.{ℕ, suc, ◌+◌, ◌*◌, ◌≤◌, ◌<◌}
 use native.Mathlib.Numerals.{add-one}
 use native.Mathlib.Omega.{arith}
 use lib.Dec.{eqb, ltb, leb}
-use lib.ListN.{length, get_or, set, take, drop, length-append}
+use lib.ListN.{length, set, take, drop, length-append}
 use lib.Seq.{append_snoc, drop-drop, get_or-drop, set_split, length-take-le}
 use borrow.Author.Tests.{eqb-true, eqb-false, leb-false, not-false}
 use Rattle.laws.proofs.Tests.{neither}
 use Rattle.queue_records.specs.Entries.{entry_of}
-use Rattle.queue_records.specs.Records.{records_len, ports_of, cells_of, count_of, free_of}
+use Rattle.queue_records.specs.Records.{records_len, ports_of, cells_of, count_of}
 use Rattle.queue_records.specs.Order.{usable}
 use Rattle.queue_records.proofs.Ordered.{Usable, usable_known, entries_long, each_placed}
 use Rattle.queue_entries.specs.Adding.{next_cell, entered, add_number}
 use Rattle.queue_records.proofs.Pools.{cell_room}
-
--- the first free entry
-pub first_free : (words : List ℕ) → get_or (free_of words) 0 0 ≡ get_or words (3 + count_of words) 0
-first_free words = get_or-drop (count_of words) (drop 3 words) 0 0 ∙ get_or-drop 3 words (count_of words + 0) 0 ∙ ap (λ k. get_or words k 0) (omega arith)
 
 -- it becomes the last one held
 pub entered_words : (m : ℕ) (words : List ℕ) (i t : ℕ) → length words ≡ records_len (cells_of words) → count_of words < cells_of words
@@ -89,7 +85,21 @@ module _ (m c w : ℕ) (words : List ℕ) (i t : ℕ) (cell pool : List ℕ) whe
     pub can_store : (length cell ≡ w) × (x < c) × (x * w + w ≤ length pool)
     can_store = (is_room.whole, below, rw at (next-room is_room))
 
-    pub can_enter : (x ≡ next_cell m words) × (x < c) × (i < m) × (t < m) × (length words ≡ records_len (cells_of words)) × (count_of words < cells_of words)
-    can_enter =
+    pub new_entry : (x < c) × (i < m) × (t < m)
+    new_entry =
         let h = is_room.known.order.head in
-        (at, below, omega (arith, is_room.initiator, h.ports), omega (arith, is_room.target, h.ports), h.long, is_room.free)
+        (below, omega (arith, is_room.initiator, h.ports), omega (arith, is_room.target, h.ports))
+
+    pub can_enter : (x ≡ next_cell m words) × (length words ≡ records_len (cells_of words)) × (count_of words < cells_of words)
+    can_enter = (at, is_room.known.order.head.long, is_room.free)
+
+-- where the pair is declined, so is the whole; where it is not, the rest decides
+pub pair_declined : (a b : Bool) (k r : ℕ) → k ≡ cond a 1 (cond b 17 0) → (k ≡ 0 → ⊥) → k ≡ cond a 1 (cond b 17 r)
+pair_declined true b k r e some = e
+pair_declined false true k r e some = e
+pair_declined false false k r e some = absurd (some e)
+
+pub pair_found : (a b : Bool) (r : ℕ) → ◌≡◌ {A = ℕ} 0 (cond a 1 (cond b 17 0)) → cond a 1 (cond b 17 r) ≡ r
+pair_found true b r e = absurd (omega (arith, e))
+pair_found false true r e = absurd (omega (arith, e))
+pair_found false false r e = refl

@@ -1,62 +1,51 @@
 // How many cells a pair holds.
-ghost use Rattle.std.specs.Prelude.{◌≡◌, ◌+◌, length};
+ghost use Rattle.std.specs.Prelude.{◌≡◌, count_by};
+ghost use Rattle.refusals.specs.Numbers.{number_of, answer_of};
 ghost use Rattle.frames.specs.Part.{most_ports};
-ghost use Rattle.queue_records.specs.Entries.{of_pair, those};
+ghost use Rattle.queue_records.specs.Entries.{of_pair};
 ghost use Rattle.queue_records.specs.Order.{most_cells};
 ghost use Rattle.queue_entries.specs.Counting.{count_number, counted};
 
-use ports::{Initiator, State, Target};
-use queue_records::{HEAD_LEN, in_order, initiator_of, target_of, word};
+use crate::queue::Queue;
+use ports::{Initiator, Target};
+use queue_records::{Entry, HEAD_LEN, Records};
+use refusals::Refusal;
 
-// The number, and how many.
-#[derive(Clone, Copy)]
-pub struct Counted {
-    pub number: u8,
-    pub cells: usize,
-}
-
-fn is_of(entry: u32, i: Initiator, t: Target) -> bool
-    ensures { result ≡ of_pair most_ports i.0 t.0 entry }
+// By the numbers: equality of whole entries would ask for the cell, too.
+fn is_of(word: u32, i: Initiator, t: Target) -> bool
+    ensures { result ≡ of_pair most_ports i.0 t.0 word }
 {
-    (initiator_of(entry).0 == i.0) & (target_of(entry).0 == t.0)
+    let entry = Entry::from(word);
+    (entry.initiator.0 == i.0) & (entry.target.0 == t.0)
 }
 
 fn count_those(entries: &[u32], i: Initiator, t: Target) -> usize
-    ensures { result ≡ length (those (of_pair most_ports i.0 t.0) entries.now) }
+    ensures { result ≡ count_by (of_pair most_ports i.0 t.0) entries.now }
 {
     let mut cells: usize = 0;
-    for k in 0..entries.len() {
-        cells += is_of(entries[k], i, t) as usize;
+    // No filter().count(): with these sums, several entries are tested at a time.
+    for &word in entries {
+        cells += usize::from(is_of(word, i, t));
     }
     cells
 }
 
-fn count_number(words: &[u32], i: Initiator, t: Target) -> u8
-    ensures { result ≡ count_number most_ports most_cells words.now i.0 t.0 }
+fn can_count(queue: Queue) -> Result<(), Refusal>
+    ensures { number_of result ≡ count_number most_ports most_cells queue.entry.records.words.now queue.entry.i.0 queue.entry.t.0 }
 {
-    let ports = word(words, 0);
-    if (ports < 1) | (State::MOST < ports) {
-        return 1;
+    queue.check_pair()?;
+    if queue.records.in_order() {
+        return Ok(());
     }
-    if (ports <= i.0) | (ports <= t.0) {
-        return 17;
-    }
-    if in_order(words) {
-        return 0;
-    }
-    17
+    Err(Refusal::BadQueues)
 }
 
-pub fn count(words: &[u32], i: Initiator, t: Target) -> Counted
-    ensures { result ≡ counted most_ports most_cells words.now i.0 t.0 }
+#[tactic(auto, using(refusals::proofs::Unique::not_done), unfolding(crate::specs::Counting::counted))]
+pub fn count(words: &[u32], i: Initiator, t: Target) -> Result<usize, Refusal>
+    ensures { answer_of 0 result ≡ counted most_ports most_cells words.now i.0 t.0 }
 {
-    let number = count_number(words, i, t);
-    if number != 0 {
-        return Counted { number, cells: 0 };
-    }
-    let end = HEAD_LEN + word(words, 2);
-    Counted {
-        number,
-        cells: count_those(&words[HEAD_LEN..end], i, t),
-    }
+    let records = Records { words };
+    can_count(Queue { records, i, t })?;
+    let end = HEAD_LEN + records.held();
+    Ok(count_those(&words[HEAD_LEN..end], i, t))
 }

@@ -3,6 +3,7 @@
 
 mod adding;
 mod counting;
+mod queue;
 
 pub use adding::add;
-pub use counting::{Counted, count};
+pub use counting::count;

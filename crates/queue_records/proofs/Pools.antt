@@ -1,12 +1,12 @@
 -- Cells of w bytes in a pool: where one lies, and what a copy to its place leaves.
-use mathlib.Core.Path.{◌≡◌, sym, ap, ◌∙◌}
-use mathlib.Core.List.{List, ◌++◌, append_assoc}
+use mathlib.Core.Path.{◌≡◌, ap, ◌∙◌}
+use mathlib.Core.List.{List, ◌++◌}
 use Prim.Native.Nat.{ℕ, ◌+◌, ◌*◌, ◌-◌, ◌≤◌, ◌<◌}
-use native.Mathlib.Nat.{le_refl, mul-le-mul_right, suc-mul}
+use native.Mathlib.Nat.{mul-le-mul_right, suc-mul}
 use native.Mathlib.Omega.{arith}
-use lib.ListN.{length, take, drop, take-append-drop, length-append, length-drop}
-use lib.Seq.{drop-drop, drop-append-le, length-take-le}
-use borrow.Rule.Slice.PartMut.{mid_of, post_of, put_mid, mid_len}
+use lib.ListN.{length, take, drop, length-append, length-drop}
+use lib.Seq.{length-take-le}
+use borrow.Rule.Slice.PartMut.{Post-is, put_mid}
 use Rattle.queue_records.specs.Queue.{cell_at, stored}
 
 -- cell x of y lies in the pool
@@ -22,15 +22,7 @@ length_stored w pool x s long room =
 pub length_cell : (w : ℕ) (pool : List ℕ) (x : ℕ) → x * w + w ≤ length pool → length (cell_at w pool x) ≡ w
 length_cell w pool x room = length-take-le w (drop (x * w) pool) (simp length-drop (omega arith))
 
--- a copy to the part of the pool from cell x on
-pub copied_in : (w x : ℕ) (pool s last : List ℕ) → length s ≡ w → x * w + w ≤ length pool
-    → last ≡ s ++ drop (length s) (mid_of (x * w) (length pool - x * w) pool)
-    → put_mid (x * w) (length pool - x * w) pool last ≡ stored w pool x s
+-- a copy to cell x of the pool
+pub copied_in : (w x : ℕ) (pool s : List ℕ) → put_mid (x * w) (x * w + w - x * w) pool s ≡ stored w pool x s
 unfolding stored
-copied_in w x pool s last long room wrote =
-    let a = x * w in
-    let k = length pool - a in
-    let fits : w ≤ length (mid_of a k pool) = omega (arith, mid_len a (length pool) pool (le_refl (length pool))) in
-    rw (wrote, long)
-    (ap (λ (l : List ℕ). take a pool ++ l)
-    (append_assoc s _ _ ∙ ap (λ (l : List ℕ). s ++ l) (sym (drop-append-le w (mid_of a k pool) (post_of a k pool) fits) ∙ ap (drop w) (take-append-drop k (drop a pool)) ∙ drop-drop w a pool)))
+copied_in w x pool s = ap (λ (l : List ℕ). take (x * w) pool ++ (s ++ l)) (Post-is (x * w) (x * w + w) pool (omega arith))

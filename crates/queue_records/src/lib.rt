@@ -5,7 +5,8 @@ mod entry;
 mod making;
 mod marks;
 mod order;
+mod records;
 
-pub use entry::{cell_of, initiator_of, target_of};
+pub use entry::Entry;
 pub use making::new_queues;
-pub use order::{CELL_LEN, HEAD_LEN, MOST_CELLS, in_order, usable, word};
+pub use records::{CELL_LEN, HEAD_LEN, MOST_CELLS, Records};

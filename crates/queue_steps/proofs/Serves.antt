@@ -6,16 +6,21 @@ use Prim.Native.Nat.{ℕ, ◌+◌, ◌*◌, ◌≤◌}
 use native.Mathlib.Omega.{arith}
 use lib.Dec.{eqb, ltb}
 use lib.ListN.{length}
-use borrow.Author.Tests.{eqb-true, eqb-false, ltb-false}
+use borrow.Author.Tests.{eqb-true, eqb-false, ltb-false, ne_eqb}
 use Rattle.laws.proofs.Tests.{both, arms}
 use Rattle.ports.specs.Due.{declined}
 use Rattle.ports.specs.declared.state.State.{State}
 use Rattle.ports.specs.declared.state.Mode.{Mode}
-use Rattle.ports.specs.declared.answer.Stepped.{Stepped}
+use Rattle.ports.specs.Answer.{Stepped}
 use Rattle.queue_records.specs.Records.{head_len, ports_of, count_of}
 use Rattle.queue_records.specs.Order.{usable}
 use Rattle.queue_records.proofs.Ordered.{usable_known}
 use Rattle.queue_steps.specs.Step.{scheduled, fits, roomy, stepped}
+
+-- a slot that the scheduler declines
+pub roomy-declined : (m w : ℕ) (st : State) (room number : ℕ) → (number ≡ 0 → ⊥) → declined m st number ≡ roomy m w st room (declined m st number)
+unfolding roomy declined
+roomy-declined m w st room number some = rw (ne_eqb number 0 some)
 
 module _ (m c w : ℕ) (words : List ℕ) (st : State) (len : ℕ) where
   pub fits_known : fits m c w words st len ≡ true → (usable m c w words len ≡ true) × (ports_of words ≡ st.ports)

@@ -4,7 +4,7 @@ use Rattle.laws.specs.Sets.{gathered, tabled}
 use Rattle.ports.specs.Due.{declined}
 use Rattle.ports.specs.declared.state.State.{State}
 use Rattle.ports.specs.declared.state.Mode.{Mode}
-use Rattle.ports.specs.declared.answer.Stepped.{Stepped}
+use Rattle.ports.specs.Answer.{Stepped}
 use Rattle.lcf.specs.Slot.{slot_on_tables}
 use Rattle.queue_records.specs.Records.{ports_of}
 use Rattle.queue_records.specs.Order.{usable}

@@ -14,7 +14,7 @@ use Rattle.laws.specs.Sets.{asks}
 use Rattle.laws.proofs.Members.{asks-empty}
 use Rattle.laws.proofs.Tests.{both}
 use Rattle.ports.specs.declared.state.Mode.{Mode}
-use Rattle.ports.specs.declared.answer.Stepped.{Stepped}
+use Rattle.ports.specs.Answer.{Stepped}
 use Rattle.lcf.specs.Advance.{advance}
 use Rattle.demands.specs.Call as tables
 use Rattle.demands.specs.History.{Below, how_many, InEach, InServed, ByValue, Moves, First, Fair}

@@ -18,7 +18,7 @@ use Rattle.ports.specs.Due.{behind, wrong_limit, due_number, declined}
 use Rattle.ports.specs.Modes.{mode_of}
 use Rattle.ports.specs.declared.state.State.{State}
 use Rattle.ports.specs.declared.state.Mode.{Mode}
-use Rattle.ports.specs.declared.answer.Stepped.{Stepped}
+use Rattle.ports.specs.Answer.{Stepped}
 use Rattle.demands.specs.History.{Below, after, how_many}
 use Rattle.demands.proofs.Calls.{call_cases}
 use Rattle.demands.proofs.Connections.{nothing_from_nowhere}

@@ -10,7 +10,7 @@ use Rattle.laws.proofs.Tests.{arms}
 use Rattle.ports.specs.Due.{declined}
 use Rattle.ports.specs.declared.state.State.{State}
 use Rattle.ports.specs.declared.state.Mode.{Mode}
-use Rattle.ports.specs.declared.answer.Stepped.{Stepped}
+use Rattle.ports.specs.Answer.{Stepped}
 use Rattle.demands.proofs.Refusal.{declined_does_nothing}
 use Rattle.queue_records.specs.Order.{in_order}
 use Rattle.queue_records.proofs.Pools.{length_stored}

@@ -13,7 +13,7 @@ use Rattle.laws.proofs.Members.{asks-empty}
 use Rattle.laws.proofs.Tests.{both, same, refuted}
 use Rattle.ports.specs.declared.state.State.{State}
 use Rattle.ports.specs.declared.state.Mode.{Mode}
-use Rattle.ports.specs.declared.answer.Stepped.{Stepped}
+use Rattle.ports.specs.Answer.{Stepped}
 use Rattle.demands.proofs.Connections.{nothing_from_nowhere}
 use Rattle.queue_records.specs.Entries.{cell_of, initiator_of, target_of, of_pair, those}
 use Rattle.queue_records.specs.Records.{ports_of, cells_of, held_of}

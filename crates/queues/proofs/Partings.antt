@@ -2,21 +2,18 @@
 use mathlib.Core.Path.{◌≡◌, refl, sym, ap, ◌∙◌}
 use mathlib.Core.Bool.{Bool, true, false, cond}
 use mathlib.Core.List.{List, [], ◌∷◌, ◌++◌, append-nil}
-use Prim.Native.Nat.{ℕ, suc, ◌+◌, ◌-◌, ◌≤◌, ◌<◌}
+use Prim.Native.Nat.{ℕ, ◌+◌, ◌-◌, ◌≤◌, ◌<◌}
 use native.Mathlib.Nat.{le_of_eq}
 use native.Mathlib.Numerals.{add-one}
 use native.Mathlib.Omega.{arith}
 use lib.ListN.{length, get_or, take, drop, set, length-append, length-drop, drop_of_length-le}
-use lib.Seq.{drop-cons, append_snoc, get_or-append-add, get_or-drop, get_or-take, length-take-le, take_at, drop_at, drop-drop}
-use borrow.Author.Rules.{part_to_end}
+use lib.Seq.{drop-cons, append_snoc, get_or-append-add, get_or-drop, take_at}
 use borrow.Rule.Slice.PartMut.{put_mid}
 use Rattle.laws.specs.Sets.{has, without}
 use Rattle.queue_records.specs.Entries.{cell_of, initiator_of, target_of, those}
 use Rattle.queue_records.proofs.Lists.{put_next}
 use Rattle.queue_records.specs.Queue.{cell_at, stored}
 use Rattle.queues.specs.Parting.{granted, spent, leaving, staying, forwarded}
-use Rattle.queues.specs.Taken.{Taken}
-use Rattle.queues.specs.declared.parting.Leavers.{Leavers}
 
 -- those that have p stay or leave
 module _ (m : ℕ) (p : ℕ → Bool) where
@@ -44,32 +41,26 @@ both_long m sets (e ∷ s) = go (granted m sets e) (both_long m (spent m sets e)
     go true h l = omega arith
     go false h l = omega arith
 
--- of the first `held` entries the first k are parted, and kept of them stay
-pub record Parting (m : ℕ) (sets entries : List ℕ) (held : ℕ) (blank : List ℕ) (k kept : ℕ) (left now leavers : List ℕ) : Type 0 where
+-- the first k entries are parted, and kept of them stay
+pub record Parting (m : ℕ) (sets entries blank : List ℕ) (k kept : ℕ) (left now leavers : List ℕ) : Type 0 where
   pub stay : List ℕ
   pub leave : List ℕ
   pub keeps : length stay ≡ kept
   pub total : kept + length leave ≡ k
-  pub to_stay : staying m sets (take held entries) ≡ stay ++ staying m left (drop k (take held entries))
-  pub to_leave : leaving m sets (take held entries) ≡ leave ++ leaving m left (drop k (take held entries))
+  pub to_stay : staying m sets entries ≡ stay ++ staying m left (drop k entries)
+  pub to_leave : leaving m sets entries ≡ leave ++ leaving m left (drop k entries)
   pub entries_now : now ≡ stay ++ drop kept entries
   pub leavers_now : leavers ≡ leave ++ drop (length leave) blank
 
-pub none_parted : (m : ℕ) (sets entries : List ℕ) (held : ℕ) (blank : List ℕ) → Parting m sets entries held blank 0 0 sets entries blank
-none_parted m sets entries held blank = record { stay = []; leave = []; keeps = refl; total = refl; to_stay = refl; to_leave = refl; entries_now = refl; leavers_now = refl }
+pub none_parted : (m : ℕ) (sets entries blank : List ℕ) → Parting m sets entries blank 0 0 sets entries blank
+none_parted m sets entries blank = record { stay = []; leave = []; keeps = refl; total = refl; to_stay = refl; to_leave = refl; entries_now = refl; leavers_now = refl }
 
-module _ (m : ℕ) (sets entries : List ℕ) (held : ℕ) (room : held ≤ length entries) (few : length (leaving m sets (take held entries)) ≤ m) where
-  abbrev all : List ℕ
-  all = take held entries
-
-  all_long : length all ≡ held
-  all_long = length-take-le held entries room
-
-  module _ {blank : List ℕ} {k kept : ℕ} {left now leavers : List ℕ} (p : Parting m sets entries held blank k kept left now leavers) where
+module _ (m : ℕ) (sets entries : List ℕ) (few : length (leaving m sets entries) ≤ m) where
+  module _ {blank : List ℕ} {k kept : ℕ} {left now leavers : List ℕ} (p : Parting m sets entries blank k kept left now leavers) where
     kept_few : kept ≤ k
     kept_few = omega (arith, p.total)
 
-    module _ (more : k < held) where
+    module _ (more : k < length entries) where
       -- the next entry stands where it stood
       still : get_or now k 0 ≡ get_or entries k 0
       still =
@@ -79,8 +70,8 @@ module _ (m : ℕ) (sets entries : List ℕ) (held : ℕ) (room : held ≤ lengt
           ap (λ (l : List ℕ). get_or l k 0) p.entries_now ∙ ap (λ n. get_or (p.stay ++ drop kept entries) n 0) (sym e)
           ∙ get_or-append-add p.stay (drop kept entries) d 0 ∙ get_or-drop kept entries d 0 ∙ ap (λ n. get_or entries n 0) f
 
-      next : drop k all ≡ get_or now k 0 ∷ drop (k + 1) all
-      next = rw (add-one, still) (drop-cons all k 0 (rw all_long more) ∙ ap (λ e. e ∷ drop (suc k) all) (get_or-take held entries k 0 more))
+      next : drop k entries ≡ get_or now k 0 ∷ drop (k + 1) entries
+      next = rw (add-one, still) (drop-cons entries k 0 more)
 
       module _ (i t : ℕ) (b : Bool) (is-i : i ≡ initiator_of m (get_or now k 0)) (is-t : t ≡ target_of m (get_or now k 0)) (is_b : b ≡ has (get_or left i 0) t) where
         asked : granted m left (get_or now k 0) ≡ b
@@ -88,20 +79,20 @@ module _ (m : ℕ) (sets entries : List ℕ) (held : ℕ) (room : held ≤ lengt
 
         -- the entry leaves
         module _ (yes : b ≡ true) where
-          leaves : leaving m left (drop k all) ≡ get_or now k 0 ∷ leaving m (spent m left (get_or now k 0)) (drop (k + 1) all)
+          leaves : leaving m left (drop k entries) ≡ get_or now k 0 ∷ leaving m (spent m left (get_or now k 0)) (drop (k + 1) entries)
           unfolding leaving
           leaves = rw (next, asked, yes)
 
-          stays_out : staying m left (drop k all) ≡ staying m (spent m left (get_or now k 0)) (drop (k + 1) all)
+          stays_out : staying m left (drop k entries) ≡ staying m (spent m left (get_or now k 0)) (drop (k + 1) entries)
           unfolding staying
           stays_out = rw (next, asked, yes)
 
           pub leave_few : k - kept < m
           leave_few =
-              omega (arith, few, p.total, ap length (p.to_leave ∙ ap (λ (l : List ℕ). p.leave ++ l) leaves), length-append p.leave (get_or now k 0 ∷ leaving m (spent m left (get_or now k 0)) (drop (k + 1) all)))
+              omega (arith, few, p.total, ap length (p.to_leave ∙ ap (λ (l : List ℕ). p.leave ++ l) leaves), length-append p.leave (get_or now k 0 ∷ leaving m (spent m left (get_or now k 0)) (drop (k + 1) entries)))
 
           pub next_leaves : (v : ℕ) → v ≡ without (get_or left i 0) t → length blank ≡ m
-              → Parting m sets entries held blank (k + 1) kept (set left i v) now (set leavers (k - kept) (get_or now k 0))
+              → Parting m sets entries blank (k + 1) kept (set left i v) now (set leavers (k - kept) (get_or now k 0))
           next_leaves v is-v long =
               let e = get_or now k 0 in
               let at : length p.leave ≡ k - kept = omega (arith, p.total) in
@@ -119,12 +110,12 @@ module _ (m : ℕ) (sets entries : List ℕ) (held : ℕ) (room : held ≤ lengt
               }
 
         -- the entry stays
-        pub next_stays : b ≡ false → Parting m sets entries held blank (k + 1) (kept + 1) left (set now kept (get_or now k 0)) leavers
+        pub next_stays : b ≡ false → Parting m sets entries blank (k + 1) (kept + 1) left (set now kept (get_or now k 0)) leavers
         unfolding staying leaving
         next_stays not-asked =
             let e = get_or now k 0 in
-            let stays : staying m left (drop k all) ≡ e ∷ staying m left (drop (k + 1) all) = rw (next, asked, not-asked) in
-            let leaves-not : leaving m left (drop k all) ≡ leaving m left (drop (k + 1) all) = rw (next, asked, not-asked) in
+            let stays : staying m left (drop k entries) ≡ e ∷ staying m left (drop (k + 1) entries) = rw (next, asked, not-asked) in
+            let leaves-not : leaving m left (drop k entries) ≡ leaving m left (drop (k + 1) entries) = rw (next, asked, not-asked) in
             record {
               stay = p.stay ++ (e ∷ []);
               leave = p.leave;
@@ -137,68 +128,54 @@ module _ (m : ℕ) (sets entries : List ℕ) (held : ℕ) (room : held ≤ lengt
             }
 
     -- all are parted
-    module _ (done : held ≤ k) where
-      none_left : drop k all ≡ []
-      none_left = drop_of_length-le all {i = k} (rw all_long done)
+    module _ (done : length entries ≤ k) where
+      none_left : drop k entries ≡ []
+      none_left = drop_of_length-le entries {i = k} done
 
-      the_staying : staying m sets all ≡ p.stay
+      the_staying : staying m sets entries ≡ p.stay
       unfolding staying
       the_staying = p.to_stay ∙ rw none_left (append-nil p.stay)
 
-      the_leaving : leaving m sets all ≡ p.leave
+      the_leaving : leaving m sets entries ≡ p.leave
       unfolding leaving
       the_leaving = p.to_leave ∙ rw none_left (append-nil p.leave)
 
-      pub all_parted : Taken m sets all (record { kept = kept; entries = leavers }) × (now ≡ staying m sets all ++ drop kept entries)
+      pub all_parted : (kept ≡ length (staying m sets entries)) × (take (length (leaving m sets entries)) leavers ≡ leaving m sets entries) × (now ≡ staying m sets entries ++ drop kept entries)
       all_parted = (
-        record { kept = sym p.keeps ∙ ap length (sym the_staying); gone = rw (the_leaving, p.leavers_now) (take_at p.leave _ (length p.leave) refl) },
+        sym p.keeps ∙ ap length (sym the_staying),
+        rw (the_leaving, p.leavers_now) (take_at p.leave _ (length p.leave) refl),
         p.entries_now ∙ rw the_staying,
       )
 
 -- those that leave are put behind those that stay
-module _ (m : ℕ) (sets entries : List ℕ) (held : ℕ) (room : held ≤ length entries) (r : Leavers) (taken : Taken m sets (take held entries) r) where
-  abbrev gone : ℕ
-  gone = length (leaving m sets (take held entries))
+module _ (m : ℕ) (sets entries : List ℕ) (kept : ℕ) (is_kept : kept ≡ length (staying m sets entries)) (now : List ℕ) (is : now ≡ staying m sets entries ++ drop kept entries) where
+  all_together : kept + length (leaving m sets entries) ≡ length entries
+  all_together = ap (λ n. n + length (leaving m sets entries)) is_kept ∙ both_long m sets entries
 
-  pub all_together : r.kept + gone ≡ held
-  all_together = ap (λ n. n + gone) taken.kept ∙ both_long m sets (take held entries) ∙ length-take-le held entries room
+  now_long : length now ≡ length entries
+  now_long = ap length is ∙ length-append (staying m sets entries) _ ∙ rw (length-drop, ← is_kept) (omega (arith, all_together))
 
-  pub gone_are : held - r.kept ≡ gone
-  gone_are = omega (arith, all_together)
+  gone_are : length now - kept ≡ length (leaving m sets entries)
+  gone_are = omega (arith, all_together, now_long)
 
-  module _ (now : List ℕ) (is : now ≡ staying m sets (take held entries) ++ drop r.kept entries) where
-    rest : drop r.kept now ≡ drop r.kept entries
-    rest = ap (drop r.kept) is ∙ drop_at (staying m sets (take held entries)) (drop r.kept entries) r.kept (sym taken.kept)
+  pub gone_fit : (leavers : List ℕ) → length (leaving m sets entries) ≤ m → length leavers ≡ m → length now - kept ≤ length leavers
+  gone_fit leavers few full = omega (arith, gone_are)
 
-    pub now_long : length now ≡ length entries
-    now_long = ap length is ∙ length-append (staying m sets (take held entries)) _ ∙ rw (length-drop, ← taken.kept) (omega (arith, all_together))
-
-    pub back_room : held - r.kept ≤ length (take (length now - r.kept) (drop r.kept now))
-    back_room = rw (part_to_end now r.kept, length-drop) (omega (arith, now_long))
-
-    pub joined : (last : List ℕ) → last ≡ take (held - r.kept) r.entries ++ drop (held - r.kept) (take (length now - r.kept) (drop r.kept now))
-        → put_mid r.kept (length now - r.kept) now last ≡ staying m sets (take held entries) ++ (leaving m sets (take held entries) ++ drop held entries)
-    joined last put =
-        let front : take r.kept now ≡ staying m sets (take held entries) = ap (take r.kept) is ∙ take_at (staying m sets (take held entries)) (drop r.kept entries) r.kept (sym taken.kept) in
-        let none : drop (length now - r.kept) (drop r.kept now) ≡ [] = drop_of_length-le (drop r.kept now) {i = length now - r.kept} (le_of_eq (length-drop r.kept now)) in
-        rw (front, none, append-nil)
-        (ap (λ (l : List ℕ). staying m sets (take held entries) ++ l)
-        (put ∙ rw (part_to_end now r.kept, rest, drop-drop, gone_are, taken.gone, all_together)))
+  pub joined : (leavers last : List ℕ) → take (length (leaving m sets entries)) leavers ≡ leaving m sets entries → last ≡ take (length now - kept) leavers
+      → put_mid kept (length now - kept) now last ≡ staying m sets entries ++ leaving m sets entries
+  joined leavers last gone put =
+      let front : take kept now ≡ staying m sets entries = ap (take kept) is ∙ take_at (staying m sets entries) (drop kept entries) kept (sym is_kept) in
+      let none : drop (length now - kept) (drop kept now) ≡ [] = drop_of_length-le (drop kept now) {i = length now - kept} (le_of_eq (length-drop kept now)) in
+      rw (front, none, append-nil) (ap (λ (l : List ℕ). staying m sets entries ++ l) (put ∙ rw gone_are gone))
 
 -- the cells of those that leave go out, one by one
-module _ (m w : ℕ) (pool s : List ℕ) (gone : ℕ) (start : List ℕ) where
-  pub one_out : (j : ℕ) (now last : List ℕ) (x t : ℕ) → j < gone → gone ≤ length s → forwarded m w pool (take gone s) start ≡ forwarded m w pool (drop j (take gone s)) now
+module _ (m w : ℕ) (pool s : List ℕ) where
+  pub one_out : (j : ℕ) (start now last : List ℕ) (x t : ℕ) → j < length s → forwarded m w pool s start ≡ forwarded m w pool (drop j s) now
       → x ≡ cell_of m (get_or s j 0) → t ≡ target_of m (get_or s j 0) → last ≡ stored w now t (cell_at w pool x)
-      → forwarded m w pool (take gone s) start ≡ forwarded m w pool (drop (j + 1) (take gone s)) last
+      → forwarded m w pool s start ≡ forwarded m w pool (drop (j + 1) s) last
   unfolding forwarded
-  one_out j now last x t h few before is_x is-t wrote =
-      let long : length (take gone s) ≡ gone = length-take-le gone s few in
-      before ∙ rw (add-one, drop-cons (take gone s) j 0 (rw long h), get_or-take gone s j 0 h, wrote, is_x, is-t)
+  one_out j start now last x t h before is_x is-t wrote = before ∙ rw (add-one, drop-cons s j 0 h, wrote, is_x, is-t)
 
-  pub all_out : (j : ℕ) (now : List ℕ) → gone ≤ j → gone ≤ length s → forwarded m w pool (take gone s) start ≡ forwarded m w pool (drop j (take gone s)) now
-      → now ≡ forwarded m w pool (take gone s) start
+  pub all_out : (j : ℕ) (start now : List ℕ) → length s ≤ j → forwarded m w pool s start ≡ forwarded m w pool (drop j s) now → now ≡ forwarded m w pool s start
   unfolding forwarded
-  all_out j now h few before =
-      let long : length (take gone s) ≡ gone = length-take-le gone s few in
-      let none : drop j (take gone s) ≡ [] = drop_of_length-le (take gone s) {i = j} (rw long h) in
-      sym (before ∙ rw none)
+  all_out j start now h before = let none : drop j s ≡ [] = drop_of_length-le s {i = j} h in sym (before ∙ rw none)

@@ -2,7 +2,7 @@
 use Rattle.std.specs.Prelude.{ℕ, cond, List, ◌++◌, eqb, length}
 use Rattle.ports.specs.declared.state.State.{State}
 use Rattle.ports.specs.declared.state.Mode.{Mode}
-use Rattle.ports.specs.declared.answer.Stepped.{Stepped}
+use Rattle.ports.specs.Answer.{Stepped}
 use Rattle.queue_records.specs.Records.{ports_of, cells_of, held_of, free_of, words_of}
 use Rattle.queue_steps.specs.Step.{stepped}
 use Rattle.queues.specs.Parting.{leaving, staying, forwarded}

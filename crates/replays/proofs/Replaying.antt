@@ -16,21 +16,21 @@ use Rattle.laws.proofs.Parts.{length_parts, next-part}
 use Rattle.ports.specs.Modes.{mode_of}
 use Rattle.ports.specs.declared.state.State.{State}
 use Rattle.ports.specs.declared.state.Mode.{Mode}
-use Rattle.ports.specs.declared.answer.Stepped.{Stepped}
+use Rattle.ports.specs.Answer.{Stepped}
 use Rattle.table_bytes.specs.Table.{table_len, table_bytes, table_put}
 use Rattle.shelf.specs.Unanswered.{unanswered}
 use Rattle.trace_parts.specs.Body.{read_fields, block_part}
-use Rattle.trace_parts.specs.declared.body.FieldsRead.{FieldsRead}
+use Rattle.trace_parts.specs.declared.body.Fields.{Fields}
 use Rattle.replays.specs.Replay.{start_state, replay_slot, state_before, replayed}
 use Rattle.replays.specs.Tables.{table_at, all_tables, all_len}
 
 length_table : (m : ℕ) (sets : List ℕ) → length (table_bytes m sets) ≡ table_len m
 length_table m sets = length_parts (λ i. big_endian 2 (get_or sets i 0)) 2 (λ i. length_big 2 (get_or sets i 0)) m
 
-pub slot_replayed : (m n slots : ℕ) (body : List ℕ) (k : ℕ) (st : State) (read : FieldsRead) (mode : Mode) (block : List ℕ) (r : Stepped) → read ≡ read_fields m n body → mode ≡ mode_of m read.fields.mode
+pub slot_replayed : (m n slots : ℕ) (body : List ℕ) (k : ℕ) (st : State) (fields : Fields) (mode : Mode) (block : List ℕ) (r : Stepped) → fields ≡ (read_fields m n body).fields → mode ≡ mode_of m fields.mode
     → block ≡ block_part m n slots k body → r ≡ unanswered m st st.due mode block → r ≡ replay_slot m n slots body k st
 unfolding replay_slot
-slot_replayed m n slots body k st read mode block r is_read is-mode is_Block e = rw (← is_read, ← is-mode, ← is_Block) e
+slot_replayed m n slots body k st fields mode block r is_read is-mode is_Block e = rw (← is_read, ← is-mode, ← is_Block) e
 
 module _ (m n first slots : ℕ) (body : List ℕ) where
   -- the first k slots are replayed

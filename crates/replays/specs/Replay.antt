@@ -4,7 +4,7 @@ use Rattle.std.specs.Prelude.{ℕ, List}
 use Rattle.laws.specs.Steps.{steps}
 use Rattle.ports.specs.Modes.{mode_of}
 use Rattle.ports.specs.declared.state.State.{State}
-use Rattle.ports.specs.declared.answer.Stepped.{Stepped}
+use Rattle.ports.specs.Answer.{Stepped}
 use Rattle.shelf.specs.Unanswered.{unanswered}
 use Rattle.trace_parts.specs.Body.{read_fields, block_part}
 

@@ -1,14 +1,15 @@
--- The ends of the C call that salvages: words of another length; salvaging declines; it is done.
-use mathlib.Core.Path.{◌≡◌, sym, ap, ◌∙◌}
+-- The ends of the C call that salvages: words of another length; and words that tell how salvaging ended.
+use mathlib.Core.Path.{◌≡◌}
 use mathlib.Core.List.{List}
 use Prim.Native.Nat.{ℕ}
-use native.Mathlib.Nat.{le_of_eq}
-use lib.ListN.{length, drop_of_length-le}
-use lib.Seq.{sets, sets-eq}
+use lib.ListN.{length}
 use borrow.Author.Tests.{eq-eqb, ne_eqb}
 use Rattle.lent.proofs.Fills as lent
 use Rattle.salvages.specs.declared.whole.Salvaged.{Salvaged}
-use Rattle.salvages.specs.Salvage.{salvage_answer, salvage_output, salvage_fates}
+use Rattle.std.specs.Prelude.{Result, eqb}
+use Rattle.refusals.specs.Numbers.{answer_of}
+use Rattle.refusals.specs.declared.Refusal.{Refusal}
+use Rattle.salvages.specs.Salvage.{no_salvage, salvage_answer, salvage_output, salvage_fates}
 use Rattle.salvage_calls.specs.Salvaging.{salvaged_words, salvaged_words_len, salvaged_number, salvaged_shown, salvaged_output, salvaged_fates}
 
 module _ (m : ℕ) (file out fates shown : List ℕ) where
@@ -24,22 +25,11 @@ module _ (m : ℕ) (file out fates shown : List ℕ) where
       let (number, words) = lent.unfit _ _ _ _ e in
       (number, rw e, rw e, words)
 
-  module _ (fits : length shown ≡ salvaged_words_len) (made : Salvaged) (o f : List ℕ)
-      (answer : made ≡ salvage_answer m file out fates) (output : o ≡ salvage_output m file out fates) (told : f ≡ salvage_fates m file out fates) where
-    abbrev number : made.number ≡ (salvage_answer m file out fates).number
-    number = ap (λ (r : Salvaged). r.number) answer
-
-    pub declines : (made.number ≡ 0 → ⊥) → Ends made.number o f shown
-    unfolding salvaged_output salvaged_fates
-    declines some =
-        let e = eq-eqb (length shown) salvaged_words_len fits in
-        let (answered, words) = lent.declines _ _ _ _ e (λ z. some (number ∙ z)) in
-        (number ∙ answered, rw e output, rw e told, words)
-
-    pub done : made.number ≡ 0 → Ends 0 o f (sets shown 0 (salvaged_words made))
-    unfolding salvaged_output salvaged_fates
-    done none =
-        let e = eq-eqb (length shown) salvaged_words_len fits in
-        let set = sets-eq (salvaged_words made) shown 0 (le_of_eq (sym fits)) in
-        let (answered, words) = lent.fills _ _ _ _ e (sym number ∙ none) _ ((rw (drop_of_length-le shown (le_of_eq fits)) at set) ∙ ap salvaged_words answer) in
-        (answered, rw e output, rw e told, words)
+  pub filled : length shown ≡ salvaged_words_len → (o f : List ℕ) → o ≡ salvage_output m file out fates → f ≡ salvage_fates m file out fates
+      → (made : Result Salvaged Refusal) → answer_of no_salvage made ≡ salvage_answer m file out fates → (r : ℕ) (w : List ℕ)
+      → lent.Ends (eqb (length shown) salvaged_words_len) (answer_of no_salvage made).number (salvaged_words (answer_of no_salvage made).fields) shown r w → Ends r o f w
+  unfolding salvaged_output salvaged_fates
+  filled fits o f output told made answer r w ends =
+      let e = eq-eqb (length shown) salvaged_words_len fits in
+      let (number, words) = rw answer at ends in
+      (number, rw e output, rw e told, words)

@@ -20,7 +20,7 @@ module _ (m : ℕ) (file out fates shown : List ℕ) where
   salvaged_number = fitted_number shown_fits (salvage_answer m file out fates).number
 
   abbrev pub salvaged_shown : List ℕ
-  salvaged_shown = filled_after salvaged_number (salvaged_words (salvage_answer m file out fates)) shown
+  salvaged_shown = filled_after salvaged_number (salvaged_words (salvage_answer m file out fates).fields) shown
 
   unfoldable pub salvaged_output : List ℕ
   salvaged_output = cond shown_fits (salvage_output m file out fates) out

@@ -1,4 +1,5 @@
 // The salvage of a trace, as C calls it.
+// C has a name for it, so it is one call of the crate below.
 #![tactic(auto)]
 
 ghost use Rattle.std.specs.Prelude.{◌≡◌};

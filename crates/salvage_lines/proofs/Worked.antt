@@ -2,12 +2,13 @@
 use mathlib.Core.Path.{◌≡◌, refl}
 use mathlib.Core.List.{[], ◌∷◌}
 use Rattle.lines.specs.Line.{decimal_in, decimal}
-use Rattle.salvage_lines.specs.Dropped.{word, dropped_line}
+use Rattle.body_fates.specs.declared.body.Fate.TheVariants.{Kept, Short, Check, Form}
+use Rattle.salvage_lines.specs.Dropped.{dropped_line}
 
 pub lines_worked :
-    (dropped_line 1234 2 ≡ 49 ∷ 50 ∷ 51 ∷ 52 ∷ 32 ∷ 99 ∷ 104 ∷ 101 ∷ 99 ∷ 107 ∷ 10 ∷ [])
-    × (dropped_line 8 3 ≡ 56 ∷ 32 ∷ 102 ∷ 111 ∷ 114 ∷ 109 ∷ 10 ∷ [])
-    × (dropped_line 90 1 ≡ 57 ∷ 48 ∷ 32 ∷ 115 ∷ 104 ∷ 111 ∷ 114 ∷ 116 ∷ 10 ∷ [])
-    × (dropped_line 8 0 ≡ [])
-unfolding decimal_in decimal word dropped_line
+    (dropped_line 1234 Check ≡ 49 ∷ 50 ∷ 51 ∷ 52 ∷ 32 ∷ 99 ∷ 104 ∷ 101 ∷ 99 ∷ 107 ∷ 10 ∷ [])
+    × (dropped_line 8 Form ≡ 56 ∷ 32 ∷ 102 ∷ 111 ∷ 114 ∷ 109 ∷ 10 ∷ [])
+    × (dropped_line 90 Short ≡ 57 ∷ 48 ∷ 32 ∷ 115 ∷ 104 ∷ 111 ∷ 114 ∷ 116 ∷ 10 ∷ [])
+    × (dropped_line 8 Kept ≡ [])
+unfolding decimal_in decimal dropped_line
 lines_worked = (refl, refl, refl, refl)

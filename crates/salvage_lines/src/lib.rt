@@ -1,54 +1,49 @@
 // What is dropped of a damaged trace, as lines of text.
 #![tactic(auto)]
 
+ghost use Rattle.std.specs.Prelude.{◌≡◌};
 ghost use Rattle.frames.specs.Part.{most_ports};
-ghost use Rattle.lines.specs.Put.{Put};
+ghost use Rattle.lines.specs.Put.{Puts};
 ghost use Rattle.salvage_lines.specs.Dropped.{word, dropped_line, line_of, dropped_lines};
 
-use body_fates::{Fate, Judged, fate_of};
-use lines::{put_byte, put_number, put_text};
+use body_fates::{Fate, Judged};
+use lines::Text;
 
-fn put_word(out: &mut [u8], at: usize, fate: u8) -> usize
-    ensures { Put out.old at (word fate) out.new result }
+// By its bytes, not by Display: `put_lines` promises the bytes and cannot fail, and a `write!` may.
+fn word(fate: Fate) -> &'static [u8]
+    ensures { result.now ≡ word fate }
 {
-    if fate == Fate::SHORT {
-        return put_text(out, at, b"short");
+    match fate {
+        Fate::Short => b"short",
+        Fate::Check => b"check",
+        Fate::Kept | Fate::Form => b"form",
     }
-    if fate == Fate::CHECK {
-        return put_text(out, at, b"check");
-    }
-    put_text(out, at, b"form")
 }
 
-fn put_dropped(out: &mut [u8], at: usize, first: u32, fate: u8) -> usize
-    ensures { Put out.old at (dropped_line first fate) out.new result }
+fn put_dropped(to: &mut Text<'_>, first: u32, fate: Fate)
+    ensures { Puts to.old (dropped_line first fate) to.new }
 {
-    if fate == Fate::KEPT {
-        return at;
+    if fate == Fate::Kept {
+        return;
     }
-    let gap = put_number(out, at, first as u64);
-    let reason = put_byte(out, gap, b' ');
-    let end = put_word(out, reason, fate);
-    put_byte(out, end, b'\n')
+    to.put_number(u64::from(first));
+    to.put_byte(b' ');
+    to.put_text(word(fate));
+    to.put_byte(b'\n');
 }
 
-fn put_line(out: &mut [u8], at: usize, contents: &[u8], judged: Judged, k: usize) -> usize
-    ensures { Put out.old at (line_of most_ports contents.now judged k) out.new result }
+fn put_line(to: &mut Text<'_>, contents: &[u8], judged: Judged, k: usize)
+    ensures { Puts to.old (line_of most_ports contents.now judged k) to.new }
 {
-    let read = trace_parts::read_entry(contents, k);
-    let entry = read.entry;
-    let fate = fate_of(judged, k);
-    put_dropped(out, at, entry.first, fate)
+    let read = trace_parts::read_entry(contents, k).unwrap_or_default();
+    put_dropped(to, read.entry.first, judged.fate_of(k));
 }
 
-// Puts a line for each body that was judged and is dropped into the bytes from their front on, and says where the last ends.
-pub fn put_lines(out: &mut [u8], contents: &[u8], judged: Judged) -> usize
-    ensures { Put out.old 0 (dropped_lines most_ports contents.now judged) out.new result }
+// A line for each body that was judged and is dropped. By index: the number is what a line's entry and fate are asked by.
+pub fn put_lines(to: &mut Text<'_>, contents: &[u8], judged: Judged)
+    ensures { Puts to.old (dropped_lines most_ports contents.now judged) to.new }
 {
-    let mut end: usize = 0;
-    let bodies = judged.bodies;
-    for k in 0..bodies {
-        end = put_line(out, end, contents, judged, k);
+    for k in 0..judged.bodies {
+        put_line(to, contents, judged, k);
     }
-    end
 }

@@ -2,16 +2,15 @@
 use mathlib.Core.Path.{◌≡◌, refl, sym, ap, ◌∙◌}
 use mathlib.Core.Logic.{⊎_elim}
 use mathlib.Core.List.{List, [], ◌++◌, append_assoc}
-use Prim.Native.Nat.{ℕ, zero, suc, ◌+◌, ◌-◌, ◌≤◌, ◌<◌}
+use Prim.Native.Nat.{ℕ, zero, suc, ◌+◌, ◌-◌, ◌≤◌}
 use native.Mathlib.Nat.{le_refl, eq-or-lt_of_le, le_of_suc-le-suc, add-zero}
 use native.Mathlib.Numerals.{add-one}
 use native.Mathlib.Omega.{arith}
-use lib.ListN.{length, take, drop, length-append, length-drop, drop_of_length-le, take-append-drop}
-use lib.Seq.{take_all, take_at, drop_at, drop-drop, take-nil, length-take-le}
-use borrow.Rule.Slice.PartMut.{mid_of, put_mid}
+use lib.ListN.{length, take, drop, length-append, take-append-drop}
+use lib.Seq.{take_at, drop_at, drop-drop}
+use borrow.Rule.Slice.PartMut.{Post-is, put_mid}
 use Rattle.laws.specs.Steps.{steps}
-use Rattle.laws.specs.Parts.{part, parts}
-use Rattle.trace_writer.proofs.Written.{copied, two_parts}
+use Rattle.laws.specs.Parts.{parts}
 
 module _ (g : ℕ → List ℕ) where
   pub parts_next : (k : ℕ) → length (parts g (k + 1)) ≡ length (parts g k) + length (g k)
@@ -33,28 +32,13 @@ module _ (g : ℕ → List ℕ) where
       let front : take at out ≡ parts g k = rw is (take_at (parts g k) (drop at o) at refl) in
       e ∙ rw (rest, front, add-one k) (sym (append_assoc (parts g k) (g k) (drop r o)))
 
--- a part of a list, as far as the list has it
-pub part_none : (at len : ℕ) (s : List ℕ) → length s ≤ at → [] ≡ part at len s
-part_none at len s h = rw (drop_of_length-le s h) (sym (take-nil len))
-
-pub part-some : (at len : ℕ) (s : List ℕ) → length s - at < len → take (length s - at) (drop at s) ≡ part at len s
-part-some at len s h =
-    let long = length-drop at s in
-    take_all (length s - at) (drop at s) (omega arith) ∙ sym (take_all len (drop at s) (omega arith))
-
-pub part_all : (at len : ℕ) (s : List ℕ) → take (at + len - at) (drop at s) ≡ part at len s
-part_all at len s = let e : at + len - at ≡ len = omega arith in rw e
-
 -- nothing is put, or a part at its place
 pub put_none : (at : ℕ) (g out : List ℕ) → g ≡ [] → (at ≡ at + length g) × (out ≡ take at out ++ (g ++ drop at out))
 put_none at g out e = rw e (sym (add-zero at), sym (take-append-drop at out))
 
-pub put_some : (at : ℕ) (g body out last : List ℕ) → body ≡ g → at ≤ length out
-    → last ≡ body ++ drop (length body) (mid_of at (length out - at) out)
-    → (at + length body ≡ at + length g) × (put_mid at (length out - at) out last ≡ take at out ++ (g ++ drop (at + length body) out))
-put_some at g body out last e h w = (
+pub put_some : (at : ℕ) (g body out : List ℕ) → body ≡ g
+    → (at + length body ≡ at + length g) × (put_mid at (at + length body - at) out body ≡ take at out ++ (g ++ drop (at + length body) out))
+put_some at g body out e = (
   ap (λ (l : List ℕ). at + length l) e,
-  two_parts at (length body) (take at out) body out out last (length-take-le at out h) (sym (take-append-drop at out)) (copied (length body) body body _ last refl refl w)
-      ∙ append_assoc (take at out) body (drop (at + length body) out)
-      ∙ ap (λ (l : List ℕ). take at out ++ (l ++ drop (at + length body) out)) e,
+  ap (λ (l : List ℕ). take at out ++ (body ++ l)) (Post-is at (at + length body) out (omega arith)) ∙ ap (λ (l : List ℕ). take at out ++ (l ++ drop (at + length body) out)) e,
 )

@@ -2,12 +2,14 @@
 -- order, in a new trace of just these; where at most m ports are allowed.
 use Rattle.std.specs.Prelude.{ℕ, cond, List, [], ◌∷◌, eqb, ltb, length}
 use Rattle.laws.specs.Parts.{parts}
+use Rattle.refusals.specs.Numbers.{Answer}
 use Rattle.frames.specs.Frame.{room_number, written}
 use Rattle.trace_parts.specs.Contents.{ports_of, count_of, entry_of, contents_sound}
 use Rattle.traces.specs.Trace.{body_at, sound_at}
 use Rattle.trace_writer.specs.Parts.{listed}
 use Rattle.trace_writer.specs.Writer.{trace_of}
-use Rattle.body_fates.specs.Fate.{fate}
+use Rattle.body_fates.specs.declared.body.Fate.{Fate}
+use Rattle.body_fates.specs.Fate.{fate_number, fate}
 use Rattle.salvages.specs.declared.whole.Salvaged.{Salvaged}
 
 -- f k, if body k is sound; and so for the first k bodies, in order
@@ -31,8 +33,12 @@ unfoldable pub salvaged : ℕ → List ℕ → List ℕ
 salvaged m s = trace_of (ports_of s) (kept_firsts m s (count_of s)) (kept_slots m s (count_of s)) (kept_bodies m s (count_of s))
 
 -- what becomes of body k
-unfoldable pub fate_at : ℕ → List ℕ → ℕ → ℕ
+unfoldable pub fate_at : ℕ → List ℕ → ℕ → Fate
 fate_at m s k = fate m (ports_of s) (entry_of s k).slots (body_at s k)
+
+-- and as C is told it
+abbrev pub told_at : ℕ → List ℕ → ℕ → ℕ
+told_at m s k = fate_number (fate_at m s k)
 
 -- ---- what the call answers
 
@@ -43,18 +49,18 @@ salvage_number m s out fates =
     (cond (ltb (length fates) (count_of s)) 7 (room_number (length (salvaged m s)) out))
     14
 
-abbrev pub declined : ℕ → Salvaged
-declined number = record { number = number; len = 0; count = 0 }
+abbrev pub no_salvage : Salvaged
+no_salvage = record { len = 0; count = 0 }
 
 module _ (m : ℕ) (s out fates : List ℕ) where
-  unfoldable pub salvage_answer : Salvaged
+  unfoldable pub salvage_answer : Answer Salvaged
   salvage_answer =
       cond (eqb (salvage_number m s out fates) 0)
-      (record { number = 0; len = length (salvaged m s); count = count_of s })
-      (declined (salvage_number m s out fates))
+      (record { number = 0; fields = record { len = length (salvaged m s); count = count_of s } })
+      (record { number = salvage_number m s out fates; fields = no_salvage })
 
   abbrev pub salvage_output : List ℕ
   salvage_output = written (salvage_number m s out fates) (length (salvaged m s)) (salvaged m s) out
 
   abbrev pub salvage_fates : List ℕ
-  salvage_fates = written (salvage_number m s out fates) (count_of s) (listed (fate_at m s) (count_of s)) fates
+  salvage_fates = written (salvage_number m s out fates) (count_of s) (listed (told_at m s) (count_of s)) fates

@@ -1,6 +1,7 @@
 // Damaged traces, salvaged: a new trace of just the bodies that are sound.
 #![tactic(auto)]
 
+mod file;
 mod putting;
 mod whole;
 

@@ -1,52 +1,21 @@
 // A whole file, salvaged.
-ghost use Rattle.std.specs.Prelude.{◌≡◌, true, ◌++◌, ◌*◌, ◌≤◌, ◌<◌, length, take, drop};
+ghost use Rattle.std.specs.Prelude.{◌≡◌, true, ◌++◌, ◌*◌, ◌≤◌, length, take, drop};
 ghost use Rattle.laws.specs.Tests.{between};
+ghost use Rattle.refusals.specs.Numbers.{answer_of};
 ghost use Rattle.frames.specs.Part.{most_ports};
 ghost use Rattle.trace_parts.specs.Layout.{most_bodies};
 ghost use Rattle.trace_writer.specs.Writer.{start_of};
-ghost use Rattle.salvages.specs.Salvage.{salvaged, declined, salvage_answer, salvage_output, salvage_fates};
-ghost use Rattle.salvages.specs.Whole.{Whole, judge_at, judged_of};
+ghost use Rattle.trace_writer.specs.Parts.{listed};
+ghost use Rattle.salvages.specs.Salvage.{told_at, salvaged, no_salvage, salvage_answer, salvage_output, salvage_fates};
 
-use crate::putting::{body_of, put_bodies};
-use body_fates::{Judged, judge};
+use crate::file::{JudgedFile, WholeFile};
+use refusals::Refusal;
 
-// The length of the new trace and the body count of the file, or a number and zeros.
+// The length of the new trace, and the body count of the file.
 #[derive(Clone, Copy)]
 pub struct Salvaged {
-    pub number: u8,
     pub len: u32,
     pub count: u32,
-}
-
-fn declined(number: u8) -> Salvaged
-    ensures { result ≡ declined number }
-{
-    Salvaged {
-        number,
-        len: 0,
-        count: 0,
-    }
-}
-
-fn judge_next(n: usize, count: usize, file: &[u8], k: usize, judged: Judged) -> Judged
-    requires { (Whole most_ports file.now n count) × (k < count) }
-    ensures { result ≡ judge_at most_ports file.now k judged }
-{
-    let read = trace_parts::read_entry(file, k);
-    let entry = read.entry;
-    let body = body_of(n, count, file, k);
-    judge(n, entry.first, entry.slots, body, judged)
-}
-
-fn judge_all(n: usize, count: usize, file: &[u8]) -> Judged
-    requires { Whole most_ports file.now n count }
-    ensures { result ≡ judged_of most_ports file.now count }
-{
-    let mut judged = Judged::none();
-    for k in 0..count {
-        judged = judge_next(n, count, file, k, judged);
-    }
-    judged
 }
 
 // How many bytes bodies of these slot counts have.
@@ -55,72 +24,78 @@ fn bodies_len(n: usize, slots: &[u16]) -> usize
     ensures { (result ≡ start_of n slots.now (length slots.now)) × (result ≤ 1024 * 268435456) }
 {
     let mut len: usize = 0;
-    for k in 0..slots.len() {
-        len = len + trace_parts::body_size(n, slots[k]);
+    for &count in slots {
+        len = len + trace_parts::body_size(n, count);
     }
     len
 }
 
-// How many bytes the new trace has.
-fn new_len(n: usize, count: usize, file: &[u8], judged: Judged) -> usize
-    requires { (Whole most_ports file.now n count) × (judged ≡ judged_of most_ports file.now count) }
-    ensures { result ≡ length (salvaged most_ports file.now) }
-{
-    let kept = judged.kept;
-    let slots = judged.slots;
-    trace_parts::contents_len(kept as u16) + bodies_len(n, &slots[..kept])
-}
-
-fn put_trace(n: usize, count: usize, file: &[u8], judged: Judged, out: &mut [u8])
-    requires { (Whole most_ports file.now n count) × (judged ≡ judged_of most_ports file.now count) × (length (salvaged most_ports file.now) ≤ length out.old) }
-    ensures { out.new ≡ salvaged most_ports file.now ++ drop (length (salvaged most_ports file.now)) out.old }
-{
-    let kept = judged.kept;
-    let firsts = judged.firsts;
-    let slots = judged.slots;
-    let fates = judged.fates;
-    trace_writer::write_contents(n, &firsts[..kept], &slots[..kept], out);
-    let at = trace_parts::contents_len(kept as u16);
-    put_bodies(n, count, file, &fates, &mut out[at..]);
-}
-
-fn put_fates(count: usize, judged: Judged, fates: &mut [u8])
-    requires { (count ≤ length judged.fates) × (count ≤ length fates.old) }
-    ensures { fates.new ≡ take count judged.fates ++ drop count fates.old }
-{
-    let told = judged.fates;
-    copying::copy(&told[..count], fates);
-}
-
-fn salvage_whole(n: usize, count: usize, file: &[u8], out: &mut [u8], fates: &mut [u8]) -> Salvaged
-    requires { (Whole most_ports file.now n count) × (count ≤ length fates.old) }
-    ensures { (result ≡ salvage_answer most_ports file.now out.old fates.old) × (out.new ≡ salvage_output most_ports file.now out.old fates.old) × (fates.new ≡ salvage_fates most_ports file.now out.old fates.old) }
-{
-    let judged = judge_all(n, count, file);
-    let len = new_len(n, count, file, judged);
-    if out.len() < len {
-        return declined(7);
+impl<'a> JudgedFile<'a> {
+    // How many bytes the new trace has.
+    fn new_len(&self) -> usize
+        ensures { result ≡ length (salvaged most_ports self.now.file.bytes.now) }
+    {
+        let kept = self.judged.kept;
+        trace_parts::contents_len(kept as u16)
+            + bodies_len(self.file.ports, &self.judged.slots[..kept])
     }
-    put_trace(n, count, file, judged, out);
-    put_fates(count, judged, fates);
-    Salvaged {
-        number: 0,
-        len: len as u32,
-        count: count as u32,
+
+    fn put_trace(&self, out: &mut [u8])
+        requires { length (salvaged most_ports self.now.file.bytes.now) ≤ length out.old }
+        ensures { out.new ≡ salvaged most_ports self.now.file.bytes.now ++ drop (length (salvaged most_ports self.now.file.bytes.now)) out.old }
+    {
+        let kept = self.judged.kept;
+        // What is kept fits, and there is room.
+        let _ = trace_writer::write_contents(
+            self.file.ports,
+            &self.judged.firsts[..kept],
+            &self.judged.slots[..kept],
+            out,
+        );
+        let at = trace_parts::contents_len(kept as u16);
+        self.put_bodies(&mut out[at..]);
+    }
+
+    fn put_fates(&self, fates: &mut [u8])
+        requires { self.now.file.count ≤ length fates.old }
+        ensures { fates.new ≡ listed (told_at most_ports self.now.file.bytes.now) self.now.file.count ++ drop self.now.file.count fates.old }
+    {
+        // By number: a fate is told at its body's number.
+        for k in 0..self.file.count {
+            fates[k] = u8::from(self.judged.fate_of(k));
+        }
+    }
+}
+
+impl<'a> WholeFile<'a> {
+    fn salvage(&self, out: &mut [u8], fates: &mut [u8]) -> Result<Salvaged, Refusal>
+        requires { self.now.count ≤ length fates.old }
+        ensures { (answer_of no_salvage result ≡ salvage_answer most_ports self.now.bytes.now out.old fates.old) × (out.new ≡ salvage_output most_ports self.now.bytes.now out.old fates.old) × (fates.new ≡ salvage_fates most_ports self.now.bytes.now out.old fates.old) }
+    {
+        let judged = JudgedFile {
+            file: *self,
+            judged: self.judged(),
+        };
+        let len = judged.new_len();
+        if out.len() < len {
+            return Err(Refusal::OutTooShort);
+        }
+        judged.put_trace(out);
+        judged.put_fates(fates);
+        Ok(Salvaged {
+            len: len as u32,
+            count: self.count as u32,
+        })
     }
 }
 
 // Writes the sound bodies of a file as a new trace, and the fate of each body to its place in the table.
-pub fn salvage(file: &[u8], out: &mut [u8], fates: &mut [u8]) -> Salvaged
-    ensures { (result ≡ salvage_answer most_ports file.now out.old fates.old) × (out.new ≡ salvage_output most_ports file.now out.old fates.old) × (fates.new ≡ salvage_fates most_ports file.now out.old fates.old) }
+pub fn salvage(file: &[u8], out: &mut [u8], fates: &mut [u8]) -> Result<Salvaged, Refusal>
+    ensures { (answer_of no_salvage result ≡ salvage_answer most_ports file.now out.old fates.old) × (out.new ≡ salvage_output most_ports file.now out.old fates.old) × (fates.new ≡ salvage_fates most_ports file.now out.old fates.old) }
 {
-    let head = trace_parts::contents_head(file);
-    if head.number != 0 {
-        return declined(14);
+    let whole = WholeFile::of(file)?;
+    if fates.len() < whole.count {
+        return Err(Refusal::OutTooShort);
     }
-    let count = head.count;
-    if fates.len() < count {
-        return declined(7);
-    }
-    salvage_whole(head.ports, count, file, out, fates)
+    whole.salvage(out, fates)
 }

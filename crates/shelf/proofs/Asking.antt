@@ -26,11 +26,11 @@ unfolding block_number
 block_ports m n block e = ltb-false m n (neither (ltb n 1) (ltb m n) (not_one (ltb n 1 || ltb m n) (differs (length block) (n * frame_len n)) e)).1
 
 module _ (m n owners : ℕ) (block : List ℕ) (number : ℕ) where
-  pub declined-sets : {r : List ℕ} → number ≡ block_number m n block → (number ≡ 0 → ⊥) → r ≡ replicate m 0 → record { number = number; sets = r } ≡ sets_asked m n owners block
+  pub declined-sets : {r : List ℕ} → number ≡ block_number m n block → (number ≡ 0 → ⊥) → r ≡ replicate m 0 → record { number = number; fields = r } ≡ sets_asked m n owners block
   unfolding sets_asked
   declined-sets is some e = rw (← is, ne_eqb number 0 some, e)
 
   pub asked-sets : (told : Told) {r : List ℕ} → number ≡ block_number m n block → number ≡ 0 → told ≡ told_of n owners (hosts_of m n block) → r ≡ within n told.tables.req
-      → record { number = 0; sets = r } ≡ sets_asked m n owners block
+      → record { number = 0; fields = r } ≡ sets_asked m n owners block
   unfolding sets_asked told_of tables
   asked-sets told is none is-told e = rw (← is, eq-eqb number 0 none, e ∙ ap (λ (t : Told). within n t.tables.req) is-told)

@@ -5,6 +5,7 @@ use mathlib.Core.List.{List}
 use Prim.Native.Nat.{ℕ, zero, suc, ◌+◌, ◌*◌, ◌%◌, ◌^◌, ◌≤◌, ◌<◌}
 use native.Mathlib.Omega.{arith}
 use native.Mathlib.Numerals.{add-one}
+use Rattle.std.specs.Prelude.{Result, Ok, Err}
 use lib.Bits.{bit_or}
 use lib.Dec.{eqb}
 use lib.ListN.{get_or, set, replicate}
@@ -13,19 +14,17 @@ use Rattle.laws.specs.Steps.{steps}
 use Rattle.laws.specs.Sets.{gathered, tabled}
 use Rattle.laws.proofs.Rows.{next_row, no_bits}
 use Rattle.laws.proofs.Words.{or_puts}
-use Rattle.frames.specs.Frame.{Answer}
-use Rattle.frames.specs.Config.{no_config, config_answer}
+use Rattle.refusals.specs.Numbers.{Answer, answer_of}
+use Rattle.refusals.specs.declared.Refusal.{Refusal}
+use Rattle.refusals.proofs.Unique.{not_done}
+use Rattle.frames.specs.Config.{no_config}
 use Rattle.frames.specs.declared.config.Config.{Config}
-use Rattle.frames.specs.declared.config.ConfigRead.{ConfigRead}
-use Rattle.frames.specs.declared.config.ConfigRead.TheVariants.{Frame, WrongLength, WrongType, WrongCheck}
 use Rattle.shelf.specs.Hosts.{said, is_heard, field_of, hosts_of}
 
 -- an answer that is no frame: a number, and zero fields
-unheard : (r : ConfigRead) → ((c : Config) → r ≡ Frame c → ⊥) → (eqb (config_answer r).number 0 ≡ false) × ((config_answer r).fields ≡ no_config)
-unheard (Frame c) e = absurd (e c refl)
-unheard WrongLength e = (refl, refl)
-unheard WrongType e = (refl, refl)
-unheard WrongCheck e = (refl, refl)
+unheard : (r : Result Config Refusal) → ((c : Config) → r ≡ Ok c → ⊥) → (eqb (answer_of no_config r).number 0 ≡ false) × ((answer_of no_config r).fields ≡ no_config)
+unheard (Ok c) e = absurd (e c refl)
+unheard (Err why) e = (not_done why, refl)
 
 module _ (m : ℕ) (f : ℕ → ℕ) where
   blank : (h k : ℕ) → h ≤ k → get_or (tabled m f h) k 0 ≡ 0
@@ -56,8 +55,8 @@ pub nobody : (m n : ℕ) (block : List ℕ) → Heard m n block 0 0 (replicate m
 unfolding steps
 nobody m n block = record { who = refl; asked = refl; claimed = refl; voted = refl }
 
-module _ {m n : ℕ} {block : List ℕ} {h heard : ℕ} {req pre ben : List ℕ} (so_far : Heard m n block h heard req pre ben) (r : ConfigRead) (is : config_answer r ≡ said m n block h) where
-  pub misses : ((c : Config) → r ≡ Frame c → ⊥) → Heard m n block (h + 1) heard req pre ben
+module _ {m n : ℕ} {block : List ℕ} {h heard : ℕ} {req pre ben : List ℕ} (so_far : Heard m n block h heard req pre ben) (r : Result Config Refusal) (is : answer_of no_config r ≡ said m n block h) where
+  pub misses : ((c : Config) → r ≡ Ok c → ⊥) → Heard m n block (h + 1) heard req pre ben
   misses other =
       let (number, fields) = unheard r other in
       let skipped : (f : Config → ℕ) (rows : List ℕ) → f no_config ≡ 0 → rows ≡ tabled m (field_of m n block f) h → rows ≡ tabled m (field_of m n block f) (h + 1)
@@ -69,9 +68,9 @@ module _ {m n : ℕ} {block : List ℕ} {h heard : ℕ} {req pre ben : List ℕ}
         voted = skipped (λ c. c.ben) ben refl so_far.voted;
       }
 
-  pub hears : (w : ℕ) (c : Config) → h < w → r ≡ Frame c → Heard m n block (h + 1) (bit_or heard ((1 * 2 ^ h) % 2 ^ w)) (set req h c.req) (set pre h c.pre) (set ben h c.ben)
+  pub hears : (w : ℕ) (c : Config) → h < w → r ≡ Ok c → Heard m n block (h + 1) (bit_or heard ((1 * 2 ^ h) % 2 ^ w)) (set req h c.req) (set pre h c.pre) (set ben h c.ben)
   hears w c l e =
-      let same = sym is ∙ ap config_answer e in
+      let same = sym is ∙ ap (answer_of no_config) e in
       let filled : (f : Config → ℕ) (rows : List ℕ) → rows ≡ tabled m (field_of m n block f) h → set rows h (f c) ≡ tabled m (field_of m n block f) (h + 1)
       = λ f rows are. next_row m (field_of m n block f) h are (sym (ap (λ (a : Answer Config). f a.fields) same)) in
       record {

@@ -6,7 +6,7 @@ use borrow.Author.Tests.{eq-eqb, ne_eqb}
 use Rattle.ports.specs.Due.{declined}
 use Rattle.ports.specs.declared.state.State.{State}
 use Rattle.ports.specs.declared.state.Mode.{Mode}
-use Rattle.ports.specs.declared.answer.Stepped.{Stepped}
+use Rattle.ports.specs.Answer.{Stepped}
 use Rattle.lcf.specs.Slot.{ended, slot_on_tables, finish_due}
 use Rattle.lcf.proofs.Slots.{in_two}
 use Rattle.shelf.specs.Hosts.{hosts_of}
@@ -28,7 +28,7 @@ module _ (m : ℕ) (st : State) (slot : ℕ) (mode : Mode) (block : List ℕ) (l
     ran = rw (← is, eq-eqb number 0 none) (run ∙ ap (λ (b : Begun). finish_due m st mode b.work) is-begun ∙ in_two m st slot mode _ _ (taken m st slot mode block out (sym is ∙ none)).due)
 
     -- a slot that is run is served
-    done : r.answer.number ≡ 0
+    pub done : r.answer.number ≡ 0
     unfolding stepped slot_on_hosts slot_on_tables ended
     done = ap (λ (r : Stepped). r.answer.number) ran ∙ rw (← is, eq-eqb number 0 none, (taken m st slot mode block out (sym is ∙ none)).due)
 

@@ -1,7 +1,7 @@
 -- Rule 1 on bytes: which hosts of a block are heard, and what their fields say.
 use Rattle.std.specs.Prelude.{ℕ, Bool, List, eqb}
 use Rattle.laws.specs.Sets.{gathered, tabled}
-use Rattle.frames.specs.Frame.{Answer}
+use Rattle.refusals.specs.Numbers.{Answer}
 use Rattle.frames.specs.Config.{read_config}
 use Rattle.frames.specs.Part.{frame_len, host_part}
 use Rattle.frames.specs.declared.config.Config.{Config}

@@ -5,7 +5,7 @@ use Rattle.frames.specs.Frame.{differs}
 use Rattle.ports.specs.Due.{due_number, declined}
 use Rattle.ports.specs.declared.state.State.{State}
 use Rattle.ports.specs.declared.state.Mode.{Mode}
-use Rattle.ports.specs.declared.answer.Stepped.{Stepped}
+use Rattle.ports.specs.Answer.{Stepped}
 use Rattle.hearing.specs.Heard.{counted}
 use Rattle.lcf.specs.Slot.{slot_on_tables}
 use Rattle.shelf.specs.Hosts.{hosts_of}

@@ -1,47 +1,31 @@
 // The sets asked in a slot, which the ledger is fed.
-ghost use Rattle.std.specs.Prelude.{◌≡◌};
+ghost use Rattle.std.specs.Prelude.{◌≡◌, replicate};
+ghost use Rattle.refusals.specs.Numbers.{number_of, answer_of};
 ghost use Rattle.frames.specs.Part.{most_ports};
 ghost use Rattle.shelf.specs.Asked.{block_number, sets_asked};
 
 use crate::hosts::listen;
 use frames::Config;
-use ports::{Set, State, Table};
+use ports::{Set, Table, wrong_ports};
+use refusals::Refusal;
 
-// The number, and the sets: empty, if the number is not 0.
-#[derive(Clone, Copy)]
-pub struct Asked {
-    pub number: u8,
-    pub sets: Table,
-}
-
-fn block_number(n: usize, block: &[u8]) -> u8
-    ensures { result ≡ block_number most_ports n block.now }
+fn check_ports(n: usize, block: &[u8]) -> Result<(), Refusal>
+    ensures { number_of result ≡ block_number most_ports n block.now }
 {
-    if (n < 1) | (State::MOST < n) {
-        return 1;
+    if wrong_ports(n) {
+        return Err(Refusal::BadPorts);
     }
     if block.len() != n * Config::LEN {
-        return 6;
+        return Err(Refusal::BadBlockLen);
     }
-    0
+    Ok(())
 }
 
 // For each host of n, the targets below n and of its operator in its req, if it is heard and enabled.
-pub fn sets_asked(n: usize, owners: Set, block: &[u8]) -> Asked
-    ensures { result ≡ sets_asked most_ports n owners block.now }
+pub fn sets_asked(n: usize, owners: Set, block: &[u8]) -> Result<Table, Refusal>
+    ensures { answer_of (replicate most_ports 0) result ≡ sets_asked most_ports n owners block.now }
 {
-    let number = block_number(n, block);
-    if number != 0 {
-        return Asked {
-            number,
-            sets: State::empty_table(),
-        };
-    }
+    check_ports(n, block)?;
     let told = listen(n, owners, block);
-    let counted = told.tables;
-    let req = counted.req;
-    Asked {
-        number: 0,
-        sets: ports::within(n, req),
-    }
+    Ok(ports::within(n, told.tables.req))
 }

@@ -6,7 +6,7 @@ ghost use Rattle.frames.specs.Part.{most_ports, told_len};
 ghost use Rattle.shelf.specs.Grants.{grant_of, granted};
 
 use frames::Held;
-use ports::{Set, Table};
+use ports::{Orderly, Set, Table};
 use words::holds;
 
 // The set alone, for a table that is handed on is copied for each host.
@@ -23,12 +23,15 @@ fn grant_for(heard: Set, link: Set, set: Set, i: usize) -> Held
     }
 }
 
-pub(crate) fn write_grants(ports: usize, heard: Set, link: Set, sets: Table, out: &mut [u8])
-    requires { (ports ≤ most_ports) × (ports * told_len ports ≤ length out.old) }
-    ensures { out.new ≡ granted ports heard link sets out.old }
+// By index, for the table's rows from the ports on are nobody's, and each grant has its place in the output.
+pub(crate) fn write_grants(shelf: Orderly, heard: Set, link: Set, sets: Table, out: &mut [u8])
+    requires { shelf.state.ports * told_len shelf.state.ports ≤ length out.old }
+    ensures { out.new ≡ granted shelf.state.ports heard link sets out.old }
 {
+    let ports = shelf.state.ports;
     for i in 0..ports {
         let at = i * Held::LEN;
-        frames::write_held(grant_for(heard, link, sets[i], i), &mut out[at..]);
+        // Never refused: it is in form, and has its room.
+        let _ = frames::write_held(grant_for(heard, link, sets[i], i), &mut out[at..]);
     }
 }

@@ -1,15 +1,18 @@
 // What the hosts say in a slot.
 ghost use Rattle.std.specs.Prelude.{◌≡◌, ◌≤◌};
+ghost use Rattle.refusals.specs.Numbers.{answer_of};
 ghost use Rattle.frames.specs.Part.{most_ports};
-ghost use Rattle.frames.specs.Config.{config_answer};
+ghost use Rattle.frames.specs.Config.{no_config};
 ghost use Rattle.hearing.specs.Heard.{tables};
 ghost use Rattle.shelf.specs.Hosts.{said, hosts_of};
 ghost use Rattle.shelf.specs.Told.{told_of};
 
-use frames::ConfigRead;
+use frames::Config;
 use hearing::Tables;
 use ports::{Set, State, Table};
+use refusals::Refusal;
 
+// A table for each field, as rules 1 to 4 read them, and a table is passed by value (document 01).
 #[derive(Clone, Copy)]
 pub struct Hosts {
     pub heard: Set,
@@ -18,14 +21,16 @@ pub struct Hosts {
     pub ben: Table,
 }
 
-fn hear_host(ports: usize, h: usize, block: &[u8]) -> ConfigRead
-    ensures { config_answer result ≡ said most_ports ports block.now h }
+fn hear_host(ports: usize, h: usize, block: &[u8]) -> Result<Config, Refusal>
+    ensures { answer_of no_config result ≡ said most_ports ports block.now h }
 {
+    // Document 01 has `host_frame` lend a number, for what its part cannot say; an empty part is declined by the reader.
     let mut number: u8 = 0;
     let frame = frames::host_frame(ports, h, block, &mut number);
     frames::read_config(frame)
 }
 
+// By index, for a host is named by its number, and who is not heard keeps an empty row.
 fn hear(ports: usize, block: &[u8]) -> Hosts
     requires { ports ≤ most_ports }
     ensures { result ≡ hosts_of most_ports ports block.now }
@@ -35,7 +40,7 @@ fn hear(ports: usize, block: &[u8]) -> Hosts
     let mut pre = [0; State::MOST];
     let mut ben = [0; State::MOST];
     for h in 0..ports {
-        let ConfigRead::Frame(c) = hear_host(ports, h, block) else {
+        let Ok(c) = hear_host(ports, h, block) else {
             continue;
         };
         heard = heard | (1 << h);
@@ -55,10 +60,7 @@ fn hear(ports: usize, block: &[u8]) -> Hosts
 fn count_hosts(ports: usize, owners: Set, hosts: Hosts) -> Tables
     ensures { result ≡ tables ports owners hosts.heard hosts.ben hosts.req hosts.pre }
 {
-    let ben = hosts.ben;
-    let req = hosts.req;
-    let pre = hosts.pre;
-    hearing::counted(ports, owners, hosts.heard, ben, req, pre)
+    hearing::counted(ports, owners, hosts.heard, hosts.ben, hosts.req, hosts.pre)
 }
 
 // Who is heard, and what counts of req and pre.

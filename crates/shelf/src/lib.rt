@@ -6,5 +6,5 @@ mod by_value;
 mod grants;
 mod hosts;
 
-pub use asked::{Asked, sets_asked};
+pub use asked::sets_asked;
 pub use by_value::{step, unanswered};

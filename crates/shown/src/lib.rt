@@ -5,15 +5,12 @@ ghost use Rattle.std.specs.Prelude.{◌≡◌};
 ghost use Rattle.frames.specs.Part.{most_ports};
 ghost use Rattle.shown.specs.Slots.{state_at, rows_of};
 
+use lines::Text;
 use ports::{Initiator, State, Table, Target};
 use std::io::Result;
 
 pub fn letter(rt: &impl Print, x: u8) -> Result<()> {
     rt.write_all(&[x])
-}
-
-pub fn number(rt: &impl Print, x: u64) -> Result<()> {
-    print!(rt; "{x}")
 }
 
 // The slot that is due at the states below.
@@ -52,7 +49,11 @@ pub fn rows(digits: u16) -> Table
 
 // The sets of the first n initiators, and the line's end.
 pub fn sets(rt: &impl Print, n: usize, sets: Table) -> Result<()> {
-    let mut line = [0u8; lines::LONGEST];
-    let end = lines::put_initiators(&mut line, 0, n, sets);
-    rt.write_all(&line[..end])
+    let mut bytes = [0; lines::LONGEST];
+    let mut line = Text {
+        bytes: &mut bytes,
+        len: 0,
+    };
+    line.put_initiators(n, sets);
+    rt.write_all(line.written())
 }

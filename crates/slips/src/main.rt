@@ -2,293 +2,268 @@
 // offsets, the next slot due and the sets. The rows of req, pre and ben are a hexadecimal digit each, row 0 the last.
 #![tactic(auto)]
 
-use ports::{Mode, State, Table};
+use ports::{Matched, Mode, Served, Set, State, Table};
 use shown::{SLOT, at, due_at, rows};
 use std::io::Result;
 
-fn field(rt: &impl Print, x: u64) -> Result<()> {
-    shown::letter(rt, b' ')?;
-    shown::number(rt, x)
-}
-
-fn show(
-    rt: &impl Print,
-    label: u64,
+// A call for a slot: the shelf's state, the slot and its mode, and what counts of what the hosts ask and plan.
+#[derive(Clone, Copy)]
+struct Slip {
     state: State,
     slot: u32,
     mode: Mode,
     req: Table,
     pre: Table,
-) -> Result<()> {
-    let r = lcf::slot_on_tables(state, slot, mode, req, pre);
-    let answer = r.answer;
-    let sets = answer.sets;
-    let next = r.state;
-    shown::number(rt, label)?;
-    field(rt, answer.number as u64)?;
-    field(rt, answer.rounds as u64)?;
-    field(rt, next.initiator.0 as u64)?;
-    field(rt, next.target.0 as u64)?;
-    field(rt, next.due as u64)?;
-    shown::sets(rt, state.ports, sets)
 }
 
-fn plan(
-    rt: &impl Print,
-    label: u64,
-    n: usize,
-    i: usize,
-    j: usize,
-    req: u16,
-    pre: u16,
-) -> Result<()> {
-    show(
-        rt,
-        label,
-        at(n, i, j),
-        SLOT,
-        Mode::Central,
-        rows(req),
-        rows(pre),
-    )
-}
+impl Slip {
+    // Of n ports at offsets (i, j), in the slot that is due and the central form; nobody plans.
+    fn at(n: usize, i: usize, j: usize, req: u16) -> Slip {
+        Slip {
+            state: at(n, i, j),
+            slot: SLOT,
+            mode: Mode::Central,
+            req: rows(req),
+            pre: State::empty_table(),
+        }
+    }
 
-fn serve(rt: &impl Print, label: u64, n: usize, i: usize, j: usize, req: u16) -> Result<()> {
-    show(
-        rt,
-        label,
-        at(n, i, j),
-        SLOT,
-        Mode::Central,
-        rows(req),
-        rows(0),
-    )
-}
+    // Of three ports, in a slot with this number while another may be due.
+    fn numbered(due: u32, slot: u32) -> Slip {
+        Slip {
+            state: due_at(3, 1, 2, due),
+            slot,
+            ..Slip::at(3, 1, 2, 0x1)
+        }
+    }
 
-fn rounds(
-    rt: &impl Print,
-    label: u64,
-    n: usize,
-    i: usize,
-    j: usize,
-    limit: u32,
-    req: u16,
-) -> Result<()> {
-    show(
-        rt,
-        label,
-        at(n, i, j),
-        SLOT,
-        Mode::Distributed(limit),
-        rows(req),
-        rows(0),
-    )
-}
+    fn planning(self, pre: u16) -> Slip {
+        Slip {
+            pre: rows(pre),
+            ..self
+        }
+    }
 
-fn first(
-    rt: &impl Print,
-    label: u64,
-    n: usize,
-    i: usize,
-    j: usize,
-    req: u16,
-    pre: u16,
-) -> Result<()> {
-    show(
-        rt,
-        label,
-        at(n, i, j),
-        SLOT,
-        Mode::Diagonal,
-        rows(req),
-        rows(pre),
-    )
-}
+    fn in_rounds(self, limit: u32) -> Slip {
+        Slip {
+            mode: Mode::Distributed(limit),
+            ..self
+        }
+    }
 
-fn hear(
-    rt: &impl Print,
-    label: u64,
-    n: usize,
-    heard: u16,
-    ben: u16,
-    req: u16,
-    pre: u16,
-) -> Result<()> {
-    let t = hearing::counted(n, 0, heard, rows(ben), rows(req), rows(pre));
-    let req = t.req;
-    let pre = t.pre;
-    show(rt, label, at(n, 0, 0), SLOT, Mode::Central, req, pre)
-}
+    fn diagonal_first(self) -> Slip {
+        Slip {
+            mode: Mode::Diagonal,
+            ..self
+        }
+    }
 
-// Four hosts, all heard; ports 2 and 3 are operator 1's.
-fn divided(rt: &impl Print, label: u64, i: usize, ben: u16, req: u16, pre: u16) -> Result<()> {
-    let t = hearing::counted(4, 0b1100, 0b1111, rows(ben), rows(req), rows(pre));
-    let req = t.req;
-    let pre = t.pre;
-    show(rt, label, at(4, i, 0), SLOT, Mode::Central, req, pre)
-}
+    // What counts where these hosts are heard and these ports are operator 1's.
+    fn heard(self, owners: Set, heard: Set, ben: u16) -> Slip {
+        let counted = hearing::counted(
+            self.state.ports,
+            owners,
+            heard,
+            rows(ben),
+            self.req,
+            self.pre,
+        );
+        let req = counted.req;
+        let pre = counted.pre;
+        Slip { req, pre, ..self }
+    }
 
-fn number(rt: &impl Print, label: u64, due: u32, slot: u32) -> Result<()> {
-    show(
-        rt,
-        label,
-        due_at(3, 1, 2, due),
-        slot,
-        Mode::Central,
-        rows(1),
-        rows(0),
-    )
+    // A slot that is declined leaves the state as it was.
+    fn show(self, rt: &impl Print, label: u64) -> Result<()> {
+        let kept = Served {
+            state: self.state,
+            matched: Matched {
+                rounds: 0,
+                sets: State::empty_table(),
+            },
+        };
+        let (number, after) = match lcf::slot_on_tables(
+            self.state, self.slot, self.mode, self.req, self.pre,
+        ) {
+            Ok(served) => (0, served),
+            Err(why) => (why.number(), kept),
+        };
+        let rounds = after.matched.rounds;
+        let i = after.state.initiator.0;
+        let j = after.state.target.0;
+        let due = after.state.due;
+        print!(rt; "{label} {number} {rounds} {i} {j} {due}")?;
+        shown::sets(rt, self.state.ports, after.matched.sets)
+    }
 }
 
 fn planned(rt: &impl Print) -> Result<()> {
     // A target's rotation of its claimants starts at I only for target J; the first claimant is kept.
-    plan(rt, 1, 2, 0, 0, 0, 0x22)?;
+    Slip::at(2, 0, 0, 0).planning(0x22).show(rt, 1)?;
     // It starts at (I + t - J), not at (J + t - I).
-    plan(rt, 2, 3, 0, 1, 0, 0x404)?;
+    Slip::at(3, 0, 1, 0).planning(0x404).show(rt, 2)?;
     // Nor at (I + t).
-    plan(rt, 3, 2, 0, 1, 0, 0x22)?;
+    Slip::at(2, 0, 1, 0).planning(0x22).show(rt, 3)?;
     // An initiator with a planned target asks for no more.
-    plan(rt, 4, 2, 0, 0, 0x20, 0x10)?;
+    Slip::at(2, 0, 0, 0x20).planning(0x10).show(rt, 4)?;
     // A target that is given is asked for no more.
-    plan(rt, 5, 2, 0, 0, 0x1, 0x10)?;
+    Slip::at(2, 0, 0, 0x1).planning(0x10).show(rt, 5)?;
     // An initiator whose claims were all dropped stays in.
-    plan(rt, 6, 2, 0, 0, 0x1, 0x22)
+    Slip::at(2, 0, 0, 0x1).planning(0x22).show(rt, 6)
 }
 
 fn central(rt: &impl Print) -> Result<()> {
     // Counts fall as targets go.
-    serve(rt, 7, 3, 0, 0, 0x246)?;
+    Slip::at(3, 0, 0, 0x246).show(rt, 7)?;
     // Among equals the first in the rotation wins.
-    serve(rt, 8, 3, 0, 0, 0x44)?;
+    Slip::at(3, 0, 0, 0x44).show(rt, 8)?;
     // The rotation of the ties moves with the target.
-    serve(rt, 9, 3, 0, 0, 0x202)
+    Slip::at(3, 0, 0, 0x202).show(rt, 9)
 }
 
 fn favour(rt: &impl Print) -> Result<()> {
     // So does the favoured initiator.
-    serve(rt, 10, 2, 0, 0, 0x22)?;
+    Slip::at(2, 0, 0, 0x22).show(rt, 10)?;
     // The targets are served from J on.
-    serve(rt, 11, 2, 0, 1, 0x11)?;
+    Slip::at(2, 0, 1, 0x11).show(rt, 11)?;
     // The favoured initiator wins whatever it asks.
-    serve(rt, 12, 2, 0, 0, 0x13)?;
+    Slip::at(2, 0, 0, 0x13).show(rt, 12)?;
     // Otherwise the one with the fewest requests wins.
-    serve(rt, 13, 3, 0, 0, 0x130)?;
+    Slip::at(3, 0, 0, 0x130).show(rt, 13)?;
     // Not only the favoured pair is joined.
-    serve(rt, 14, 2, 0, 0, 0x20)?;
+    Slip::at(2, 0, 0, 0x20).show(rt, 14)?;
     // Bits at or above n do not count.
-    serve(rt, 15, 3, 0, 0, 0x190)
+    Slip::at(3, 0, 0, 0x190).show(rt, 15)
 }
 
 fn grants(rt: &impl Print) -> Result<()> {
     // A grant's rotation moves with the target; the first of equals is granted.
-    rounds(rt, 16, 2, 0, 0, 1, 0x22)?;
+    Slip::at(2, 0, 0, 0x22).in_rounds(1).show(rt, 16)?;
     // It starts at (I + t - J), not at (J + t - I).
-    rounds(rt, 17, 3, 0, 1, 1, 0x44)?;
+    Slip::at(3, 0, 1, 0x44).in_rounds(1).show(rt, 17)?;
     // Nor at (I + t).
-    rounds(rt, 18, 2, 0, 1, 1, 0x11)?;
+    Slip::at(2, 0, 1, 0x11).in_rounds(1).show(rt, 18)?;
     // The asker with the fewest requests is granted.
-    rounds(rt, 19, 2, 0, 0, 1, 0x32)
+    Slip::at(2, 0, 0, 0x32).in_rounds(1).show(rt, 19)
 }
 
 fn accepts(rt: &impl Print) -> Result<()> {
     // An accept's rotation moves with the initiator; the first of equals is accepted.
-    rounds(rt, 20, 2, 0, 0, 1, 0x30)?;
+    Slip::at(2, 0, 0, 0x30).in_rounds(1).show(rt, 20)?;
     // It starts at (J + i - I), not at (I + i - J).
-    rounds(rt, 21, 3, 1, 0, 1, 0x3)?;
+    Slip::at(3, 1, 0, 0x3).in_rounds(1).show(rt, 21)?;
     // Nor at (J + i).
-    rounds(rt, 22, 2, 1, 0, 1, 0x3)?;
+    Slip::at(2, 1, 0, 0x3).in_rounds(1).show(rt, 22)?;
     // The target with the fewest askers at the round's start is accepted.
-    rounds(rt, 23, 3, 0, 0, 1, 0x506)
+    Slip::at(3, 0, 0, 0x506).in_rounds(1).show(rt, 23)
 }
 
 fn rounds_run(rt: &impl Print) -> Result<()> {
     // A round's matches free nobody within it.
-    rounds(rt, 24, 3, 0, 0, 1, 0x132)?;
+    Slip::at(3, 0, 0, 0x132).in_rounds(1).show(rt, 24)?;
     // The favoured pair is joined before any round.
-    rounds(rt, 25, 2, 0, 0, 1, 0x1)?;
+    Slip::at(2, 0, 0, 0x1).in_rounds(1).show(rt, 25)?;
     // The limit ends the rounds.
-    rounds(rt, 26, 3, 0, 0, 1, 0x606)?;
+    Slip::at(3, 0, 0, 0x606).in_rounds(1).show(rt, 26)?;
     // A later round works as the first.
-    rounds(rt, 27, 3, 0, 0, 2, 0x606)?;
+    Slip::at(3, 0, 0, 0x606).in_rounds(2).show(rt, 27)?;
     // Where no request is live no round is run or counted.
-    rounds(rt, 28, 3, 0, 0, 16, 0x606)
+    Slip::at(3, 0, 0, 0x606).in_rounds(16).show(rt, 28)
 }
 
 fn heard(rt: &impl Print) -> Result<()> {
     // An unheard host asks for nothing and has no vote: hosts 1 and 2 clear bit 0, and host 2 is unheard.
-    hear(rt, 29, 3, 3, 0x667, 0x421, 0)?;
+    Slip::at(3, 0, 0, 0x421).heard(0, 0b11, 0x667).show(rt, 29)?;
     // A disabled initiator still has its vote: 0 and 1 vote against each other, and 2 against both.
-    hear(rt, 30, 3, 7, 0x465, 0x421, 0)?;
+    Slip::at(3, 0, 0, 0x421)
+        .heard(0, 0b111, 0x465)
+        .show(rt, 30)?;
     // It plans nothing.
-    hear(rt, 31, 3, 7, 0x667, 0, 0x022)
+    Slip::at(3, 0, 0, 0)
+        .planning(0x022)
+        .heard(0, 0b111, 0x667)
+        .show(rt, 31)
 }
 
 fn slot_numbers(rt: &impl Print) -> Result<()> {
     // Slot 5 when 5 is due.
-    number(rt, 32, 5, 5)?;
+    Slip::numbered(5, 5).show(rt, 32)?;
     // The same again: number 3, and the state stays.
-    number(rt, 33, 6, 5)?;
+    Slip::numbered(6, 5).show(rt, 33)?;
     // Slot 7 when 6 is due: number 4.
-    number(rt, 34, 6, 7)?;
+    Slip::numbered(6, 7).show(rt, 34)?;
     // The difference is modulo 2^32.
-    number(rt, 35, 0, 4294967295)?;
+    Slip::numbered(0, 4294967295).show(rt, 35)?;
     // 2147483648 behind is stale,
-    number(rt, 36, 0, 2147483648)?;
+    Slip::numbered(0, 2147483648).show(rt, 36)?;
     // and one more is early.
-    number(rt, 37, 0, 2147483647)?;
+    Slip::numbered(0, 2147483647).show(rt, 37)?;
     // After 4294967295 comes 0.
-    number(rt, 38, 4294967295, 4294967295)
+    Slip::numbered(4294967295, 4294967295).show(rt, 38)
 }
 
 fn offsets(rt: &impl Print) -> Result<()> {
     // (2, 0) goes to (0, 1),
-    serve(rt, 39, 3, 2, 0, 0x1)?;
+    Slip::at(3, 2, 0, 0x1).show(rt, 39)?;
     // and (2, 2) to (0, 0).
-    serve(rt, 40, 3, 2, 2, 0x1)?;
+    Slip::at(3, 2, 2, 0x1).show(rt, 40)?;
     // An offset at n: number 2.
-    serve(rt, 41, 3, 3, 0, 0x1)?;
+    Slip::at(3, 3, 0, 0x1).show(rt, 41)?;
     // So for J.
-    serve(rt, 42, 3, 0, 3, 0x1)?;
+    Slip::at(3, 0, 3, 0x1).show(rt, 42)?;
     // Ports outside 1 to 16: number 1.
-    serve(rt, 43, 0, 0, 0, 0x1)?;
+    Slip::at(0, 0, 0, 0x1).show(rt, 43)?;
     // 17 are too many,
-    serve(rt, 44, 17, 0, 0, 0x1)?;
+    Slip::at(17, 0, 0, 0x1).show(rt, 44)?;
     // and 16 are taken.
-    serve(rt, 45, 16, 0, 0, 0x1)
+    Slip::at(16, 0, 0, 0x1).show(rt, 45)
 }
 
 fn limits(rt: &impl Print) -> Result<()> {
     // A limit outside 1 to 16: number 5.
-    rounds(rt, 46, 3, 0, 0, 0, 0x1)?;
+    Slip::at(3, 0, 0, 0x1).in_rounds(0).show(rt, 46)?;
     // 17 is too many,
-    rounds(rt, 47, 3, 0, 0, 17, 0x1)?;
+    Slip::at(3, 0, 0, 0x1).in_rounds(17).show(rt, 47)?;
     // and 16 is taken.
-    rounds(rt, 48, 3, 0, 0, 16, 0x1)
+    Slip::at(3, 0, 0, 0x1).in_rounds(16).show(rt, 48)
 }
 
 fn one_vote(rt: &impl Print) -> Result<()> {
     // One host alone disables nobody, whatever it clears.
-    hear(rt, 49, 3, 7, 0x770, 0x421, 0)
+    Slip::at(3, 0, 0, 0x421).heard(0, 0b111, 0x770).show(rt, 49)
 }
 
 fn diagonal(rt: &impl Print) -> Result<()> {
     // The diagonal begins at (I, J), not at (J, I).
-    first(rt, 50, 3, 1, 0, 0x702, 0)?;
+    Slip::at(3, 1, 0, 0x702).diagonal_first().show(rt, 50)?;
     // The central form serves the rest.
-    first(rt, 51, 2, 0, 0, 0x2, 0)?;
+    Slip::at(2, 0, 0, 0x2).diagonal_first().show(rt, 51)?;
     // A pair whose request is not live is not joined.
-    first(rt, 52, 2, 0, 0, 0x20, 0x2)
+    Slip::at(2, 0, 0, 0x20)
+        .planning(0x2)
+        .diagonal_first()
+        .show(rt, 52)
 }
 
+// Four hosts, all heard; ports 2 and 3 are operator 1's.
 fn operators(rt: &impl Print) -> Result<()> {
     // Votes of the other operator's hosts do not count,
-    divided(rt, 53, 0, 0xeeff, 0x0001, 0)?;
+    Slip::at(4, 0, 0, 0x0001)
+        .heard(0b1100, 0b1111, 0xeeff)
+        .show(rt, 53)?;
     // and those of one's own do.
-    divided(rt, 54, 0, 0xffee, 0x0001, 0)?;
+    Slip::at(4, 0, 0, 0x0001)
+        .heard(0b1100, 0b1111, 0xffee)
+        .show(rt, 54)?;
     // Who plans another operator's port plans nothing, and asks.
-    divided(rt, 55, 0, 0xffff, 0x0420, 0x0200)?;
+    Slip::at(4, 0, 0, 0x0420)
+        .planning(0x0200)
+        .heard(0b1100, 0b1111, 0xffff)
+        .show(rt, 55)?;
     // Requests for another operator's ports do not count where the fewest win.
-    divided(rt, 56, 1, 0xffff, 0x002e, 0)
+    Slip::at(4, 1, 0, 0x002e)
+        .heard(0b1100, 0b1111, 0xffff)
+        .show(rt, 56)
 }
 
 fn main(rt: HostRuntime) -> Result<()> {

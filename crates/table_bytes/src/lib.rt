@@ -17,15 +17,10 @@ fn read(bytes: &[u8]) -> Table
     requires { table_len most_ports ≤ length bytes.now }
     ensures { result ≡ table_of most_ports bytes.now }
 {
-    let mut table = State::empty_table();
-    for i in 0..State::MOST {
-        let at = i * 2;
-        table[i] = words::of_two(bytes[at], bytes[at + 1]);
-    }
-    table
+    std::array::from_fn(|i| words::of_two(bytes[i * 2], bytes[i * 2 + 1]))
 }
 
-// The table at the front of the bytes; an empty one where they are too few.
+// The table at the front of the bytes; an empty one where they are too few, as `table_in` of specs/, which theorems speak of.
 pub fn table_in(bytes: &[u8]) -> Table
     ensures { result ≡ table_in most_ports bytes.now }
 {
@@ -39,18 +34,15 @@ fn put_set(set: Set, out: &mut [u8])
     requires { 2 ≤ length out.old }
     ensures { out.new ≡ big_endian 2 set ++ drop 2 out.old }
 {
-    let bytes = words::two_bytes(set);
-    out[0] = bytes[0];
-    out[1] = bytes[1];
+    out[..2].copy_from_slice(&words::two_bytes(set));
 }
 
 fn put(sets: Table, out: &mut [u8])
     requires { table_len most_ports ≤ length out.old }
     ensures { out.new ≡ table_bytes most_ports sets ++ drop (table_len most_ports) out.old }
 {
-    for i in 0..State::MOST {
-        let at = i * 2;
-        put_set(sets[i], &mut out[at..]);
+    for (i, &set) in sets.iter().enumerate() {
+        put_set(set, &mut out[i * 2..]);
     }
 }
 

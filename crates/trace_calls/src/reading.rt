@@ -1,46 +1,42 @@
 // What is read of a trace, in words that are lent.
-ghost use Rattle.std.specs.Prelude.{◌≡◌, ◌≤◌};
+ghost use Rattle.std.specs.Prelude.{◌≡◌, ◌≤◌, IfOk};
+ghost use Rattle.refusals.specs.Numbers.{answer_of};
 ghost use Rattle.frames.specs.Part.{most_ports};
-ghost use Rattle.trace_parts.specs.Contents.{file_head, read_entry};
+ghost use Rattle.trace_parts.specs.Contents.{no_head, file_head, no_description, read_entry};
 ghost use Rattle.traces.specs.Trace.{trace_head, trace_entry};
-ghost use Rattle.trace_calls.specs.Shown.{head_number, head_shown, entry_number, entry_shown};
+ghost use Rattle.trace_calls.specs.Shown.{head_words, head_number, head_shown, entry_words, entry_number, entry_shown};
 
-use trace_parts::{EntryRead, Head};
+use lent::fill;
+use refusals::{Refusal, number_of};
+use trace_parts::{Described, Head};
 
-const HEAD_WORDS: usize = 2;
-
-const ENTRY_WORDS: usize = 4;
-
-fn fill_head(head: Head, shown: &mut [u32]) -> u32
+// No From: neither type is of this crate.
+fn head_words(head: Head) -> [u32; 2]
     requires { (head.ports ≤ 65535) × (head.count ≤ 65535) }
-    ensures { (result ≡ head_number head shown.old) × (shown.new ≡ head_shown head shown.old) }
+    ensures { result ≡ head_words head }
 {
-    if shown.len() != HEAD_WORDS {
-        return 8;
-    }
-    if head.number != 0 {
-        return head.number as u32;
-    }
-    shown[0] = head.ports as u32;
-    shown[1] = head.count as u32;
-    0
+    [head.ports as u32, head.count as u32]
 }
 
-fn fill_entry(read: EntryRead, body: &mut [u32]) -> u32
-    ensures { (result ≡ entry_number read body.old) × (body.new ≡ entry_shown read body.old) }
+// No From: neither type is of this crate.
+fn entry_words(body: Described) -> [u32; 4]
+    ensures { result ≡ entry_words body }
 {
-    if body.len() != ENTRY_WORDS {
-        return 8;
-    }
-    if read.number != 0 {
-        return read.number as u32;
-    }
-    let entry = read.entry;
-    body[0] = entry.first;
-    body[1] = entry.slots as u32;
-    body[2] = entry.offset;
-    body[3] = read.len;
-    0
+    let entry = body.entry;
+    [entry.first, u32::from(entry.slots), entry.offset, body.len]
+}
+
+fn fill_head(read: Result<Head, Refusal>, shown: &mut [u32]) -> u32
+    requires { IfOk read (λ head. (head.ports ≤ 65535) × (head.count ≤ 65535)) }
+    ensures { (result ≡ head_number (answer_of no_head read) shown.old) × (shown.new ≡ head_shown (answer_of no_head read) shown.old) }
+{
+    u32::from(number_of(fill(read.map(head_words), shown)))
+}
+
+fn fill_entry(read: Result<Described, Refusal>, body: &mut [u32]) -> u32
+    ensures { (result ≡ entry_number (answer_of no_description read) body.old) × (body.new ≡ entry_shown (answer_of no_description read) body.old) }
+{
+    u32::from(number_of(fill(read.map(entry_words), body)))
 }
 
 // Of a whole file.

@@ -6,15 +6,22 @@ use Prim.Native.Nat.{ℕ, ◌+◌, ◌≤◌, ◌<◌}
 use native.Mathlib.Nat.{mul-le-mul_right}
 use native.Mathlib.Omega.{arith}
 use lib.Dec.{ltb, leb}
-use lib.ListN.{length, take}
+use lib.ListN.{length, take, get_or}
 use borrow.Author.Tests.{eqb-true, ltb-true, leb-true, lt-ltb, le-leb}
+use Rattle.laws.specs.Bytes.{number_from, number_at}
 use Rattle.laws.specs.Tests.{between}
 use Rattle.laws.proofs.Every.{every_each}
 use Rattle.laws.proofs.Tests.{both, same, from_to, in_range}
 use Rattle.laws.proofs.Tests as tests
 use Rattle.words.specs.Check.{intact}
+use Rattle.words.proofs.BytesAt.{one_at}
 use Rattle.trace_parts.specs.Layout.{contents_len, most_bodies, most_slots}
 use Rattle.trace_parts.specs.Contents.{ports_of, count_of, entry_at, entry_of, contents_end, due, entry_sound, contents_sound, contents_fit, has_entry}
+
+-- the number of one byte is that byte
+pub byte_at : (s : List ℕ) (at : ℕ) → at + 1 ≤ length s → number_at 1 at s ≡ get_or s at 0
+unfolding number_from
+byte_at s at h = rw (one_at s at h) (omega arith)
 
 pub record EntrySound (s : List ℕ) (k : ℕ) : Type 0 where
   pub least : 1 ≤ (entry_of s k).slots

@@ -4,9 +4,9 @@ use Rattle.laws.specs.Bytes.{number_at}
 use Rattle.laws.specs.Parts.{part}
 use Rattle.laws.specs.Tests.{between}
 use Rattle.words.specs.Check.{intact}
+use Rattle.refusals.specs.Numbers.{Answer}
 use Rattle.trace_parts.specs.Layout.{fields_len, block_len, body_len, most_mode, most_slots}
 use Rattle.trace_parts.specs.declared.body.Fields.{Fields}
-use Rattle.trace_parts.specs.declared.body.FieldsRead.{FieldsRead}
 
 unfoldable pub fields_of : List ℕ → Fields
 fields_of body = record { mode = number_at 1 0 body; initiator = number_at 1 1 body; target = number_at 1 2 body }
@@ -29,7 +29,7 @@ abbrev pub no_fields : Fields
 no_fields = record { mode = 0; initiator = 0; target = 0 }
 
 -- the fields that stand in a body for n ports, if they are of proper form
-unfoldable pub read_fields : ℕ → ℕ → List ℕ → FieldsRead
+unfoldable pub read_fields : ℕ → ℕ → List ℕ → Answer Fields
 read_fields m n body =
     cond (leb fields_len (length body) && (between 1 m n && formed n (fields_of body)))
     (record { number = 0; fields = fields_of body })

@@ -4,9 +4,10 @@ use Rattle.laws.specs.Bytes.{number_at}
 use Rattle.laws.specs.Steps.{every}
 use Rattle.laws.specs.Tests.{between}
 use Rattle.words.specs.Check.{intact}
+use Rattle.refusals.specs.Numbers.{Answer}
 use Rattle.trace_parts.specs.Layout.{head_len, entry_len, contents_len, body_len, most_slots, most_bodies}
 use Rattle.trace_parts.specs.declared.contents.Entry.{Entry}
-use Rattle.trace_parts.specs.declared.contents.EntryRead.{EntryRead}
+use Rattle.trace_parts.specs.declared.contents.Described.{Described}
 use Rattle.trace_parts.specs.declared.contents.Head.{Head}
 
 unfoldable pub ports_of : List ℕ → ℕ
@@ -53,28 +54,37 @@ contents_fit m len s = contents_sound m s && eqb (due s (count_of s)) len
 
 -- ---- what the calls answer
 
--- ports and body count if a test holds, else 14 and zeros
-abbrev pub head_if : Bool → List ℕ → Head
-head_if b s = cond b (record { number = 0; ports = ports_of s; count = count_of s }) (record { number = 14; ports = 0; count = 0 })
+abbrev pub head_of : List ℕ → Head
+head_of s = record { ports = ports_of s; count = count_of s }
 
-abbrev pub contents_head : ℕ → List ℕ → Head
+abbrev pub no_head : Head
+no_head = record { ports = 0; count = 0 }
+
+-- ports and body count if a test holds, else 14 and zeros
+abbrev pub head_if : Bool → List ℕ → Answer Head
+head_if b s = cond b (record { number = 0; fields = head_of s }) (record { number = 14; fields = no_head })
+
+abbrev pub contents_head : ℕ → List ℕ → Answer Head
 contents_head m s = head_if (contents_sound m s) s
 
-abbrev pub file_head : ℕ → ℕ → List ℕ → Head
+abbrev pub file_head : ℕ → ℕ → List ℕ → Answer Head
 file_head m len s = head_if (contents_fit m len s) s
 
--- entry k and the bytes of its body if a test holds, else 14 and zeros
-abbrev pub no_entry : Entry
-no_entry = record { first = 0; slots = 0; offset = 0 }
+abbrev pub described : List ℕ → ℕ → Described
+described s k = record { entry = entry_of s k; len = entry_body s k }
 
-abbrev pub entry_if : Bool → List ℕ → ℕ → EntryRead
-entry_if b s k = cond b (record { number = 0; entry = entry_of s k; len = entry_body s k }) (record { number = 14; entry = no_entry; len = 0 })
+abbrev pub no_description : Described
+no_description = record { entry = record { first = 0; slots = 0; offset = 0 }; len = 0 }
+
+-- entry k and the bytes of its body if a test holds, else 14 and zeros
+abbrev pub entry_if : Bool → List ℕ → ℕ → Answer Described
+entry_if b s k = cond b (record { number = 0; fields = described s k }) (record { number = 14; fields = no_description })
 
 -- what is asked of bytes that show entry k: that they hold it, that the ports are a port count, and that k is below the body count
 unfoldable pub has_entry : ℕ → List ℕ → ℕ → Bool
 has_entry m s k = leb (entry_at k + entry_len) (length s) && (between 1 m (ports_of s) && ltb k (count_of s))
 
-abbrev pub read_entry : ℕ → List ℕ → ℕ → EntryRead
+abbrev pub read_entry : ℕ → List ℕ → ℕ → Answer Described
 read_entry m s k = entry_if (has_entry m s k) s k
 
 -- the bytes of the contents that start so; 0 where the count is not there or too great

@@ -1,63 +1,168 @@
 // The contents of a trace.
-ghost use Rattle.std.specs.Prelude.{◌≡◌, true, ◌+◌, ◌*◌, ◌≤◌, length};
+ghost use Rattle.std.specs.Prelude.{◌≡◌, true, false, ◌+◌, ◌*◌, ◌≤◌, ◌<◌, length, unwrap_or, IfSome, MatchResult};
+ghost use Rattle.laws.specs.Bytes.{number_at};
 ghost use Rattle.laws.specs.Steps.{every};
+ghost use Rattle.refusals.specs.Numbers.{number, answer_of};
 ghost use Rattle.frames.specs.Part.{most_ports};
 ghost use Rattle.trace_parts.specs.Layout.{body_len};
-ghost use Rattle.trace_parts.specs.Contents.{ports_of, count_of, entry_at, entry_of, due, entry_sound, contents_sound, contents_fit, head_if, contents_head, file_head, has_entry, read_entry, contents_size};
+ghost use Rattle.trace_parts.specs.Contents.{ports_of, count_of, entry_at, entry_of, due, entry_sound, contents_sound, no_head, head_of, contents_head, file_head, has_entry, no_description, read_entry, contents_size};
 
 use crate::layout::{Layout, body_len, contents_len, ports_sound, slots_sound};
-use crate::number::{byte, long, word};
+use long_check::ByTables;
+use refusals::Refusal;
+use words::intact;
 
-#[derive(Clone, Copy)]
+#[derive(Clone, Copy, Default)]
 pub struct Entry {
     pub first: u32,
     pub slots: u16,
     pub offset: u32,
 }
 
-// An entry and the bytes of its body, or number 14 and zeros.
-#[derive(Clone, Copy)]
-pub struct EntryRead {
-    pub number: u8,
+// An entry, and the bytes of its body.
+#[derive(Clone, Copy, Default)]
+pub struct Described {
     pub entry: Entry,
     pub len: u32,
 }
 
-// Ports and body count, or number 14 and zeros.
 #[derive(Clone, Copy)]
 pub struct Head {
-    pub number: u8,
     pub ports: usize,
     pub count: usize,
 }
 
-fn ports_of(s: &[u8]) -> usize
-    requires { 3 ≤ length s.now }
-    ensures { (result ≡ ports_of s.now) × (result ≤ 255) }
+// The number of four bytes that starts at byte `at`.
+fn long(s: &[u8], at: usize) -> u32
+    requires { at + 4 ≤ length s.now }
+    ensures { result ≡ number_at 4 at s.now }
 {
-    byte(s, 0) as usize
+    words::of_four(s[at], s[at + 1], s[at + 2], s[at + 3])
 }
 
-fn count_of(s: &[u8]) -> u16
-    requires { 3 ≤ length s.now }
-    ensures { result ≡ count_of s.now }
-{
-    word(s, 1)
+// The start of a file, with ports and body count at least.
+#[derive(Clone, Copy)]
+struct Start<'a> {
+    bytes: &'a [u8],
+    ghost holds_head: { 3 ≤ length bytes.now },
 }
 
-fn entry_of(s: &[u8], k: usize) -> Entry
-    requires { entry_at k + 10 ≤ length s.now }
-    ensures { result ≡ entry_of s.now k }
-{
-    let at = Layout::HEAD + k * Layout::ENTRY;
-    Entry {
-        first: long(s, at),
-        slots: word(s, at + 4),
-        offset: long(s, at + 6),
+impl<'a> Start<'a> {
+    fn of(bytes: &'a [u8]) -> Result<Start<'a>, Refusal>
+        ensures { MatchResult result (λ start. start.bytes.now ≡ bytes.now) (λ why. (number why ≡ 14) × (length bytes.now < 3)) }
+    {
+        if bytes.len() < Layout::HEAD {
+            return Err(Refusal::BadTrace);
+        }
+        Ok(Start { bytes })
+    }
+
+    // Of sound contents.
+    fn of_sound(bytes: &'a [u8]) -> Result<Start<'a>, Refusal>
+        ensures { MatchResult result
+            (λ start. (start.bytes.now ≡ bytes.now) × (contents_sound most_ports bytes.now ≡ true))
+            (λ why. (number why ≡ 14) × (contents_sound most_ports bytes.now ≡ false)) }
+    {
+        let start = Start::of(bytes)?;
+        if start.is_sound() {
+            return Ok(start);
+        }
+        Err(Refusal::BadTrace)
+    }
+
+    fn ports(&self) -> usize
+        ensures { (result ≡ ports_of self.now.bytes.now) × (result ≤ 255) }
+    {
+        usize::from(self.bytes[0])
+    }
+
+    fn count(&self) -> u16
+        ensures { result ≡ count_of self.now.bytes.now }
+    {
+        words::of_two(self.bytes[1], self.bytes[2])
+    }
+
+    fn head(&self) -> Head
+        ensures { result ≡ head_of self.now.bytes.now }
+    {
+        Head {
+            ports: self.ports(),
+            count: self.count() as usize,
+        }
+    }
+
+    fn entry(&self, k: usize) -> Entry
+        requires { entry_at k + 10 ≤ length self.now.bytes.now }
+        ensures { result ≡ entry_of self.now.bytes.now k }
+    {
+        let at = Layout::HEAD + k * Layout::ENTRY;
+        Entry {
+            first: long(self.bytes, at),
+            slots: words::of_two(self.bytes[at + 4], self.bytes[at + 5]),
+            offset: long(self.bytes, at + 6),
+        }
+    }
+
+    // Where body k has to start; or, at the count, where the file has to end.
+    fn due(&self, k: usize) -> usize
+        requires { entry_at k ≤ length self.now.bytes.now }
+        ensures { result ≡ due self.now.bytes.now k }
+    {
+        if k == 0 {
+            return contents_len(self.count());
+        }
+        end_of(self.ports(), self.entry(k - 1))
+    }
+
+    fn entry_sound(&self, k: usize) -> bool
+        requires { entry_at k + 10 ≤ length self.now.bytes.now }
+        ensures { result ≡ entry_sound self.now.bytes.now k }
+    {
+        let entry = self.entry(k);
+        slots_sound(self.ports(), entry.slots) & (entry.offset as usize == self.due(k))
+    }
+
+    #[tactic(auto, using(laws::proofs::Every::every_none, laws::proofs::Every::every_again, laws::proofs::Every::every_done))]
+    fn entries_sound(&self, count: usize) -> bool
+        requires { entry_at count ≤ length self.now.bytes.now }
+        ensures { result ≡ every (entry_sound self.now.bytes.now) count }
+    {
+        let mut sound = true;
+        // By number: entry k is due where entry k - 1 ends.
+        for k in 0..count {
+            sound = sound & self.entry_sound(k);
+        }
+        sound
+    }
+
+    // Whether the bytes show entry k.
+    fn has_entry(&self, k: usize) -> bool
+        ensures { result ≡ has_entry most_ports self.now.bytes.now k }
+    {
+        if k < self.count() as usize {
+            let end = Layout::HEAD + k * Layout::ENTRY + Layout::ENTRY;
+            return (end <= self.bytes.len()) & ports_sound(self.ports());
+        }
+        false
+    }
+
+    // Whether it starts with contents of proper form and right check.
+    fn is_sound(&self) -> bool
+        ensures { result ≡ contents_sound most_ports self.now.bytes.now }
+    {
+        let count = self.count();
+        let end = contents_len(count);
+        if self.bytes.len() < end {
+            return false;
+        }
+        let bodies = count as usize;
+        intact::<ByTables>(&self.bytes[..end])
+            & (ports_sound(self.ports())
+                & ((bodies <= Layout::BODIES) & self.entries_sound(bodies)))
     }
 }
 
-// Where an entry's body ends, in a trace of n ports.
+// Where an entry's body ends, in a trace of n ports. n is a usize up to 255, as in body_len: with a u8, each of its users would convert it.
 fn end_of(n: usize, entry: Entry) -> usize
     requires { n ≤ 255 }
     ensures { result ≡ entry.offset + body_len n entry.slots }
@@ -65,143 +170,48 @@ fn end_of(n: usize, entry: Entry) -> usize
     entry.offset as usize + body_len(n, entry.slots)
 }
 
-// Where body k has to start; or, at the count, where the file has to end.
-fn due(s: &[u8], k: usize) -> usize
-    requires { (3 ≤ length s.now) × (entry_at k ≤ length s.now) }
-    ensures { result ≡ due s.now k }
-{
-    if k == 0 {
-        return contents_len(count_of(s));
-    }
-    end_of(ports_of(s), entry_of(s, k - 1))
-}
-
-fn entry_sound(s: &[u8], k: usize) -> bool
-    requires { entry_at k + 10 ≤ length s.now }
-    ensures { result ≡ entry_sound s.now k }
-{
-    let entry = entry_of(s, k);
-    slots_sound(ports_of(s), entry.slots) & (entry.offset as usize == due(s, k))
-}
-
-fn entries_sound(s: &[u8], count: usize) -> bool
-    requires { entry_at count ≤ length s.now }
-    ensures { result ≡ every (entry_sound s.now) count }
-{
-    let mut sound = true;
-    for k in 0..count {
-        sound = sound & entry_sound(s, k);
-    }
-    sound
-}
-
-// Whether s starts with contents of proper form and right check.
-fn contents_sound(s: &[u8]) -> bool
-    ensures { result ≡ contents_sound most_ports s.now }
-{
-    if s.len() < Layout::HEAD {
-        return false;
-    }
-    let count = count_of(s);
-    let end = contents_len(count);
-    if s.len() < end {
-        return false;
-    }
-    let bodies = count as usize;
-    long_check::long_intact(&s[..end])
-        & (ports_sound(ports_of(s)) & ((bodies <= Layout::BODIES) & entries_sound(s, bodies)))
-}
-
-// Whether they are those of a file of so many bytes.
-fn contents_fit(s: &[u8], len: usize) -> bool
-    ensures { result ≡ contents_fit most_ports len s.now }
-{
-    if contents_sound(s) {
-        return due(s, count_of(s) as usize) == len;
-    }
-    false
-}
-
-fn head_if(sound: bool, s: &[u8]) -> Head
-    requires { sound ≡ true → 3 ≤ length s.now }
-    ensures { result ≡ head_if sound s.now }
-{
-    if sound {
-        return Head {
-            number: 0,
-            ports: ports_of(s),
-            count: count_of(s) as usize,
-        };
-    }
-    Head {
-        number: 14,
-        ports: 0,
-        count: 0,
-    }
-}
-
 // Of sound contents.
-pub fn contents_head(start: &[u8]) -> Head
-    ensures { result ≡ contents_head most_ports start.now }
+pub fn contents_head(start: &[u8]) -> Result<Head, Refusal>
+    ensures { answer_of no_head result ≡ contents_head most_ports start.now }
 {
-    head_if(contents_sound(start), start)
+    let sound = Start::of_sound(start)?;
+    Ok(sound.head())
 }
 
 // Of sound contents at the start of a file of so many bytes, which its last body ends.
-pub fn file_head(start: &[u8], len: usize) -> Head
-    ensures { result ≡ file_head most_ports len start.now }
+pub fn file_head(start: &[u8], len: usize) -> Result<Head, Refusal>
+    ensures { answer_of no_head result ≡ file_head most_ports len start.now }
 {
-    head_if(contents_fit(start, len), start)
-}
-
-// Whether the bytes show entry k.
-fn has_entry(s: &[u8], k: usize) -> bool
-    ensures { result ≡ has_entry most_ports s.now k }
-{
-    if s.len() < Layout::HEAD {
-        return false;
+    let sound = Start::of_sound(start)?;
+    if sound.due(sound.count() as usize) == len {
+        return Ok(sound.head());
     }
-    if k < count_of(s) as usize {
-        let end = Layout::HEAD + k * Layout::ENTRY + Layout::ENTRY;
-        return (end <= s.len()) & ports_sound(ports_of(s));
-    }
-    false
+    Err(Refusal::BadTrace)
 }
 
 // Entry k, in constant time, of contents that were found sound: they are not tested again.
-pub fn read_entry(start: &[u8], k: usize) -> EntryRead
-    ensures { result ≡ read_entry most_ports start.now k }
+pub fn read_entry(start: &[u8], k: usize) -> Result<Described, Refusal>
+    ensures { answer_of no_description result ≡ read_entry most_ports start.now k }
 {
-    if has_entry(start, k) {
-        let entry = entry_of(start, k);
-        let len = body_len(ports_of(start), entry.slots) as u32;
-        return EntryRead {
-            number: 0,
-            entry,
-            len,
-        };
+    let held = Start::of(start)?;
+    if held.has_entry(k) {
+        let entry = held.entry(k);
+        let len = body_len(held.ports(), entry.slots) as u32;
+        return Ok(Described { entry, len });
     }
-    EntryRead {
-        number: 14,
-        entry: Entry {
-            first: 0,
-            slots: 0,
-            offset: 0,
-        },
-        len: 0,
-    }
+    Err(Refusal::BadTrace)
 }
 
 // How many bytes the contents have that start so; none where the count is not there or too great.
-pub fn contents_size(start: &[u8]) -> usize
-    ensures { (result ≡ contents_size start.now) × (result ≤ 10245) }
+pub fn contents_size(start: &[u8]) -> Option<usize>
+    ensures { (unwrap_or result 0 ≡ contents_size start.now) × IfSome result (λ len. (5 ≤ len) × (len ≤ 10245)) }
 {
-    if start.len() < Layout::HEAD {
-        return 0;
-    }
-    let count = count_of(start);
+    let Ok(held) = Start::of(start) else {
+        return None;
+    };
+    let count = held.count();
     if Layout::BODIES < count as usize {
-        return 0;
+        return None;
     }
-    contents_len(count)
+    Some(contents_len(count))
 }

@@ -67,7 +67,7 @@ pub(crate) fn body_len(n: usize, slots: u16) -> usize
     Layout::FIELDS + slots as usize * block_len(n) + Layout::CHECK
 }
 
-// The bytes of a body of so many slots, for n ports; none where n is no port count.
+// The bytes of a body of so many slots, for n ports; 0, and no refusal, where n is no port count, since it can't fail.
 pub fn body_size(n: usize, slots: u16) -> usize
     ensures { (result ≡ body_size most_ports n slots) × (result ≤ 268435456) }
 {

@@ -4,10 +4,7 @@
 mod body;
 mod contents;
 mod layout;
-mod number;
 
-pub use body::{
-    Fields, FieldsRead, body_sound, complete, formed, read_fields, slot_block, sound_from,
-};
-pub use contents::{Entry, EntryRead, Head, contents_head, contents_size, file_head, read_entry};
+pub use body::{Fields, body_sound, complete, formed, read_fields, slot_block, sound_from};
+pub use contents::{Described, Entry, Head, contents_head, contents_size, file_head, read_entry};
 pub use layout::{Layout, body_size, contents_len, ports_sound, slots_sound};

@@ -1,11 +1,12 @@
 -- What is known of fields, counts and bodies that fit, and how long what is written is.
 use mathlib.Core.Path.{◌≡◌, refl, ap, ◌∙◌}
-use mathlib.Core.Bool.{true}
+use mathlib.Core.Bool.{Bool, true, false, ◌&&◌}
 use mathlib.Core.List.{List, ◌++◌}
 use Prim.Native.Nat.{ℕ, ◌+◌, ◌*◌, ◌≤◌, ◌<◌}
 use lib.Dec.{eqb, leb}
 use lib.ListN.{length, get_or, length-append}
 use borrow.Author.Tests.{eqb-true, leb-true}
+use Rattle.laws.specs.Steps.{every}
 use Rattle.laws.specs.Tests.{between}
 use Rattle.laws.specs.Bytes.{big_endian}
 use Rattle.laws.proofs.Parts.{length_parts}
@@ -94,6 +95,16 @@ pub record Parts (m n : ℕ) (firsts slots bodies : List ℕ) : Type 0 where
   pub counts : CountsFit m n firsts slots
   pub ends : start_of n slots (length slots) ≡ length bodies
   pub each : (k : ℕ) → k < length slots → body_sound m n (get_or slots k 0) (joined n slots bodies k) ≡ true
+
+-- parts are sound as the bodies joined are, where the counts fit; else they are not
+pub bodies_decide : (m n : ℕ) (firsts slots bodies : List ℕ) (b : Bool) → counts_fit m n firsts slots ≡ true
+    → b ≡ (eqb (start_of n slots (length slots)) (length bodies) && every (joined_sound m n slots bodies) (length slots)) → parts_sound m n firsts slots bodies ≡ b
+unfolding parts_sound
+bodies_decide m n firsts slots bodies b e is = rw (e, ← is)
+
+pub no_counts : (m n : ℕ) (firsts slots bodies : List ℕ) → counts_fit m n firsts slots ≡ false → parts_sound m n firsts slots bodies ≡ false
+unfolding parts_sound
+no_counts m n firsts slots bodies e = rw e
 
 pub parts_sound_lem : (m n : ℕ) (firsts slots bodies : List ℕ) → parts_sound m n firsts slots bodies ≡ true → Parts m n firsts slots bodies
 unfolding parts_sound joined_sound

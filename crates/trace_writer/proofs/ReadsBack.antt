@@ -143,10 +143,10 @@ module _ (n : ℕ) (firsts slots bodies : List ℕ) (c : CountsFit most_ports n 
       (every (le-leb (entry_at k + 10) (length file) (entry_within k count (length file) l (rw long (omega arith)))) (every (in_range c.some c.ports) (lt-ltb k count l)))
 
   -- what a call answers whose test holds
-  pub head_back : (b : Bool) → b ≡ true → head_if b file ≡ record { number = 0; ports = n; count = count }
+  pub head_back : (b : Bool) → b ≡ true → head_if b file ≡ record { number = 0; fields = record { ports = n; count = count } }
   head_back b e = rw (e, ports_back, count_back)
 
-  pub entry_read_back : (b : Bool) → b ≡ true → (k : ℕ) → k < count → entry_if b file k ≡ record { number = 0; entry = entry_for n firsts slots k; len = body_len n (get_or slots k 0) }
+  pub entry_read_back : (b : Bool) → b ≡ true → (k : ℕ) → k < count → entry_if b file k ≡ record { number = 0; fields = record { entry = entry_for n firsts slots k; len = body_len n (get_or slots k 0) } }
   unfolding entry_for
   entry_read_back b e k l = rw (e, ports_back, entry_back k l)
 

@@ -59,8 +59,8 @@ body_writes_back n slots s out bytes e room =
 -- what is read of bytes that start with them, and of the start of a file that their last body ends
 pub record ContentsRead (s : List ℕ) (n : ℕ) (firsts slots : List ℕ) : Type 0 where
   pub sound : contents_sound most_ports s ≡ true
-  pub head : file_head most_ports (contents_len (length slots) + start_of n slots (length slots)) s ≡ record { number = 0; ports = n; count = length slots }
-  pub entry : (k : ℕ) → k < length slots → read_entry most_ports s k ≡ record { number = 0; entry = entry_for n firsts slots k; len = body_len n (get_or slots k 0) }
+  pub head : file_head most_ports (contents_len (length slots) + start_of n slots (length slots)) s ≡ record { number = 0; fields = record { ports = n; count = length slots } }
+  pub entry : (k : ℕ) → k < length slots → read_entry most_ports s k ≡ record { number = 0; fields = record { entry = entry_for n firsts slots k; len = body_len n (get_or slots k 0) } }
 
 -- contents that are written, and whatever follows them
 pub contents_read_back : (n : ℕ) (firsts slots : List ℕ) → ((k : ℕ) → get_or firsts k 0 < 256 ^ 4) → (out rest : List ℕ)
@@ -81,8 +81,8 @@ contents_read_back n firsts slots small out rest done =
 -- what is read of a file: ports and count, each entry, and each body
 pub record TraceReads (s : List ℕ) (n : ℕ) (firsts slots bodies : List ℕ) : Type 0 where
   pub sound : trace_sound most_ports s ≡ true
-  pub head : trace_head most_ports s ≡ record { number = 0; ports = n; count = length slots }
-  pub entry : (k : ℕ) → k < length slots → trace_entry most_ports s k ≡ record { number = 0; entry = entry_for n firsts slots k; len = body_len n (get_or slots k 0) }
+  pub head : trace_head most_ports s ≡ record { number = 0; fields = record { ports = n; count = length slots } }
+  pub entry : (k : ℕ) → k < length slots → trace_entry most_ports s k ≡ record { number = 0; fields = record { entry = entry_for n firsts slots k; len = body_len n (get_or slots k 0) } }
   pub body : (k : ℕ) → k < length slots → (body_number most_ports s k ≡ 0) × (body_part most_ports s k ≡ joined n slots bodies k)
 
 parts_read : (n : ℕ) (firsts slots bodies : List ℕ) → ((k : ℕ) → get_or firsts k 0 < 256 ^ 4) → parts_sound most_ports n firsts slots bodies ≡ true

@@ -4,15 +4,11 @@ use mathlib.Core.List.{List, [], ◌∷◌, ◌++◌, append-nil, append_assoc}
 use Prim.Native.Nat.{ℕ, ◌+◌, ◌-◌}
 use native.Mathlib.Nat.{le_refl}
 use native.Mathlib.Omega.{arith}
-use lib.ListN.{length, drop, length-append, length-drop, drop_of_length-le}
+use lib.ListN.{length, drop, length-append, drop_of_length-le}
 use lib.Seq.{take_at, drop_at, take_all, drop-drop}
 use borrow.Rule.Slice.PartMut.{mid_of, put_mid}
 use Rattle.words.specs.Check.{checked, sealed}
 use Rattle.words.proofs.CheckLaws.{sealed-over}
-
--- a copy of bytes that are w many
-pub copied : (w : ℕ) (s b o out : List ℕ) → b ≡ s → length s ≡ w → out ≡ b ++ drop (length b) o → out ≡ s ++ drop w o
-copied w s b o out is long e = e ∙ rw (is, long)
 
 -- the part from a on, lent and written, behind the first a bytes p
 module _ (a : ℕ) (p q : List ℕ) (front : length p ≡ a) where
@@ -40,8 +36,5 @@ sealed-behind s (a ∷ b ∷ []) two = sealed-over s a b
 sealed-behind s (a ∷ b ∷ c ∷ q) two = absurd (omega arith)
 
 -- two parts and their check
-pub sealed-parts : (a w : ℕ) (p s o one last exit : List ℕ) → length p ≡ a → length o ≡ a + w + 2 → one ≡ p ++ drop a o
-    → last ≡ s ++ drop w (mid_of a (length one - a) one) → exit ≡ sealed (put_mid a (length one - a) one last) → exit ≡ checked (p ++ s)
-sealed-parts a w p s o one last exit front room is wrote e =
-    let left : length (drop (a + w) o) ≡ 2 = length-drop (a + w) o ∙ omega arith in
-    e ∙ ap sealed (two_parts a w p s o one last front is wrote) ∙ sealed-behind (p ++ s) (drop (a + w) o) left
+pub sealed_parts : (p s q front behind exit : List ℕ) → front ≡ p → behind ≡ s ++ q → length q ≡ 2 → exit ≡ sealed (front ++ behind) → exit ≡ checked (p ++ s)
+sealed_parts p s q front behind exit is-front is-behind two e = e ∙ rw (is-front, is-behind) (ap sealed (sym (append_assoc p s q)) ∙ sealed-behind (p ++ s) q two)

@@ -6,5 +6,5 @@ mod sealing;
 mod writing;
 
 pub use listing::write_contents;
-pub use sealing::seal_body;
+pub use sealing::{field_bytes, seal_body};
 pub use writing::write_trace;

@@ -1,24 +1,35 @@
 // The contents of a trace, written.
-ghost use Rattle.std.specs.Prelude.{◌≡◌, true, ◌++◌, ◌*◌, ◌≤◌, length, get_or, drop};
+ghost use Rattle.std.specs.Prelude.{◌≡◌, true, false, ◌++◌, ◌*◌, ◌≤◌, length, get_or, drop, MatchResult};
 ghost use Rattle.laws.specs.Steps.{every};
 ghost use Rattle.laws.specs.Tests.{between};
+ghost use Rattle.refusals.specs.Numbers.{number, number_of};
 ghost use Rattle.frames.specs.Part.{most_ports};
 ghost use Rattle.trace_parts.specs.Layout.{contents_len, most_slots};
 ghost use Rattle.trace_writer.specs.Writer.{head_bytes, entry_bytes, entries_for, contents_of, counts_fit, contents_number, contents_output};
 
+use long_check::ByTables;
+use refusals::Refusal;
 use trace_parts::{Entry, Layout, contents_len};
-use words::{four_bytes, two_bytes};
+use words::{four_bytes, seal, two_bytes};
 
-fn head_bytes(n: usize, count: usize) -> [u8; Layout::HEAD]
-    ensures { result ≡ head_bytes n count }
-{
-    [
-        (n % 256) as u8,
-        (count / 256 % 256) as u8,
-        (count % 256) as u8,
-    ]
+// What contents list: the ports, and of each body its first slot and its slot count. In two lists, as C gives them.
+#[derive(Clone, Copy)]
+pub(crate) struct Listing<'a> {
+    pub(crate) ports: usize,
+    pub(crate) firsts: &'a [u32],
+    pub(crate) slots: &'a [u16],
+    ghost fits: { counts_fit most_ports ports firsts.now slots.now ≡ true },
 }
 
+// The low byte of the ports, which no conversion of the library takes. Byte by byte: the library joins arrays only on a heap.
+fn head_bytes(n: usize, count: u16) -> [u8; Layout::HEAD]
+    ensures { result ≡ head_bytes n count }
+{
+    let count = two_bytes(count);
+    [(n % 256) as u8, count[0], count[1]]
+}
+
+// Byte by byte, likewise.
 fn entry_bytes(entry: Entry) -> [u8; Layout::ENTRY]
     ensures { result ≡ entry_bytes entry }
 {
@@ -35,67 +46,104 @@ fn put_entry(entry: Entry, out: &mut [u8])
     requires { 10 ≤ length out.old }
     ensures { out.new ≡ entry_bytes entry ++ drop 10 out.old }
 {
-    let bytes = entry_bytes(entry);
-    copying::copy(&bytes, out);
+    out[..Layout::ENTRY].copy_from_slice(&entry_bytes(entry));
 }
 
-fn put_entries(n: usize, firsts: &[u32], slots: &[u16], out: &mut [u8])
-    requires { (counts_fit most_ports n firsts.now slots.now ≡ true) × (length slots.now * 10 ≤ length out.old) }
-    ensures { out.new ≡ entries_for n firsts.now slots.now ++ drop (length slots.now * 10) out.old }
-{
-    let bodies = slots.len();
-    let mut offset = contents_len(bodies as u16);
-    for k in 0..bodies {
-        let count = slots[k];
-        let entry = Entry {
-            first: firsts[k],
-            slots: count,
-            offset: offset as u32,
-        };
-        let at = k * Layout::ENTRY;
-        put_entry(entry, &mut out[at..]);
-        offset = offset + trace_parts::body_size(n, count);
-    }
-}
-
-pub(crate) fn put_contents(n: usize, firsts: &[u32], slots: &[u16], out: &mut [u8])
-    requires { (counts_fit most_ports n firsts.now slots.now ≡ true) × (length out.old ≡ contents_len (length slots.now)) }
-    ensures { out.new ≡ contents_of n firsts.now slots.now }
-{
-    let head = head_bytes(n, slots.len());
-    copying::copy(&head, out);
-    put_entries(n, firsts, slots, &mut out[Layout::HEAD..]);
-    long_check::long_seal(out);
-}
-
+#[tactic(auto, using(laws::proofs::Every::every_none, laws::proofs::Every::every_again, laws::proofs::Every::every_done))]
 fn slots_fit(n: usize, slots: &[u16]) -> bool
     ensures { result ≡ every (λ k. between 1 (most_slots n) (get_or slots.now k 0)) (length slots.now) }
 {
     let mut sound = true;
-    for k in 0..slots.len() {
-        sound = sound & trace_parts::slots_sound(n, slots[k]);
+    for &count in slots {
+        sound = sound & trace_parts::slots_sound(n, count);
     }
     sound
 }
 
-pub(crate) fn counts_fit(n: usize, firsts: &[u32], slots: &[u16]) -> bool
+fn counts_fit(n: usize, firsts: &[u32], slots: &[u16]) -> bool
     ensures { result ≡ counts_fit most_ports n firsts.now slots.now }
 {
     trace_parts::ports_sound(n)
         & ((firsts.len() == slots.len()) & ((slots.len() <= Layout::BODIES) & slots_fit(n, slots)))
 }
 
-// The contents alone, for bodies that are written one by one.
-pub fn write_contents(n: usize, firsts: &[u32], slots: &[u16], out: &mut [u8]) -> u8
-    ensures { (result ≡ contents_number most_ports n firsts.now slots.now out.old) × (out.new ≡ contents_output most_ports n firsts.now slots.now out.old) }
-{
-    if counts_fit(n, firsts, slots) {
-        let len = contents_len(slots.len() as u16);
-        if out.len() < len {
-            return 7;
+impl<'a> Listing<'a> {
+    pub(crate) fn of(
+        ports: usize,
+        firsts: &'a [u32],
+        slots: &'a [u16],
+    ) -> Result<Listing<'a>, Refusal>
+        ensures { MatchResult result
+            (λ list. (list.ports ≡ ports) × (list.firsts.now ≡ firsts.now) × (list.slots.now ≡ slots.now))
+            (λ why. (number why ≡ 14) × (counts_fit most_ports ports firsts.now slots.now ≡ false)) }
+    {
+        if counts_fit(ports, firsts, slots) {
+            return Ok(Listing {
+                ports,
+                firsts,
+                slots,
+            });
         }
-        put_contents(n, firsts, slots, &mut out[..len]);
-        return 0;
+        Err(Refusal::BadTrace)
     }
-    14
+
+    fn count(self) -> u16
+        ensures { result ≡ length self.entry.slots.now }
+    {
+        self.slots.len() as u16
+    }
+
+    // How many bytes the contents have.
+    pub(crate) fn len(self) -> usize
+        ensures { (result ≡ contents_len (length self.entry.slots.now)) × (result ≤ 655355) }
+    {
+        contents_len(self.count())
+    }
+
+    fn put_entries(self, out: &mut [u8])
+        requires { length self.slots.now * 10 ≤ length out.old }
+        ensures { out.new ≡ entries_for self.entry.ports self.entry.firsts.now self.entry.slots.now ++ drop (length self.entry.slots.now * 10) out.old }
+    {
+        let mut offset = self.len();
+        // By index: k says where the entry stands, too.
+        for k in 0..self.slots.len() {
+            let slots = self.slots[k];
+            let entry = Entry {
+                first: self.firsts[k],
+                slots,
+                offset: offset as u32,
+            };
+            let at = k * Layout::ENTRY;
+            put_entry(entry, &mut out[at..]);
+            offset = offset + trace_parts::body_size(self.ports, slots);
+        }
+    }
+
+    pub(crate) fn put(self, out: &mut [u8])
+        requires { length out.old ≡ contents_len (length self.slots.now) }
+        ensures { out.new ≡ contents_of self.entry.ports self.entry.firsts.now self.entry.slots.now }
+    {
+        let (head, entries) = out.split_at_mut(Layout::HEAD);
+        head.copy_from_slice(&head_bytes(self.ports, self.count()));
+        self.put_entries(entries);
+        seal::<ByTables>(out);
+    }
+}
+
+// The contents alone, for bodies that are written one by one.
+pub fn write_contents(
+    n: usize,
+    firsts: &[u32],
+    slots: &[u16],
+    out: &mut [u8],
+) -> Result<(), Refusal>
+    ensures { (number_of result ≡ contents_number most_ports n firsts.now slots.now out.old) × (out.new ≡ contents_output most_ports n firsts.now slots.now out.old) }
+{
+    let list = Listing::of(n, firsts, slots)?;
+    let len = list.len();
+    if out.len() < len {
+        return Err(Refusal::OutTooShort);
+    }
+    list.put(&mut out[..len]);
+    Ok(())
 }

@@ -14,7 +14,7 @@ use Rattle.trace_parts.specs.Body.{fields_of, formed, complete, body_sound, has_
 use Rattle.traces.specs.Trace.{body_at, sound_at, trace_sound, trace_head}
 
 -- a shelf of sixteen ports, and no body: ports, body count, check
-empty : trace_head most_ports (16 ∷ 0 ∷ 0 ∷ 143 ∷ 255 ∷ []) ≡ record { number = 0; ports = 16; count = 0 }
+empty : trace_head most_ports (16 ∷ 0 ∷ 0 ∷ 143 ∷ 255 ∷ []) ≡ record { number = 0; fields = record { ports = 16; count = 0 } }
 unfolding crc_from crc_byte crc_bit steps number_from intact ports_of count_of due every contents_sound contents_fit trace_sound
 empty = refl
 
@@ -26,12 +26,12 @@ contents = 2 ∷ 0 ∷ 1 ∷ 1 ∷ 2 ∷ 3 ∷ 4 ∷ 0 ∷ 2 ∷ 0 ∷ 0 ∷ 0 �
 abbrev body : List ℕ
 body = (3 ∷ 1 ∷ 0 ∷ []) ++ replicate 22 7 ++ replicate 22 9 ++ (85 ∷ 121 ∷ [])
 
-one_body : trace_head most_ports (contents ++ body) ≡ record { number = 0; ports = 2; count = 1 }
+one_body : trace_head most_ports (contents ++ body) ≡ record { number = 0; fields = record { ports = 2; count = 1 } }
 unfolding crc_from crc_byte crc_bit steps number_from intact ports_of count_of entry_of due every entry_sound contents_sound contents_fit block_len body_len most_mode most_slots fields_of formed complete body_sound body_at sound_at trace_sound
 one_body = refl
 
 -- the entry, and the body that it names
-entry_shown : entry_if true (contents ++ body) 0 ≡ record { number = 0; entry = record { first = 0x01020304; slots = 2; offset = 15 }; len = 49 }
+entry_shown : entry_if true (contents ++ body) 0 ≡ record { number = 0; fields = record { entry = record { first = 0x01020304; slots = 2; offset = 15 }; len = 49 } }
 unfolding number_from ports_of entry_of block_len body_len
 entry_shown = refl
 

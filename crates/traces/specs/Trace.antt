@@ -2,9 +2,10 @@
 use Rattle.std.specs.Prelude.{ℕ, Bool, ◌&&◌, cond, List, [], ltb, length}
 use Rattle.laws.specs.Parts.{part}
 use Rattle.laws.specs.Steps.{every}
+use Rattle.refusals.specs.Numbers.{Answer}
 use Rattle.trace_parts.specs.Contents.{ports_of, count_of, entry_of, entry_body, contents_fit, head_if, entry_if}
 use Rattle.trace_parts.specs.Body.{body_sound}
-use Rattle.trace_parts.specs.declared.contents.EntryRead.{EntryRead}
+use Rattle.trace_parts.specs.declared.contents.Described.{Described}
 use Rattle.trace_parts.specs.declared.contents.Head.{Head}
 
 -- the bytes of body k
@@ -20,13 +21,13 @@ trace_sound m s = contents_fit m (length s) s && every (sound_at m s) (count_of 
 
 -- ---- what the calls answer
 
-abbrev pub trace_head : ℕ → List ℕ → Head
+abbrev pub trace_head : ℕ → List ℕ → Answer Head
 trace_head m s = head_if (trace_sound m s) s
 
 unfoldable pub has_body : ℕ → List ℕ → ℕ → Bool
 has_body m s k = trace_sound m s && ltb k (count_of s)
 
-abbrev pub trace_entry : ℕ → List ℕ → ℕ → EntryRead
+abbrev pub trace_entry : ℕ → List ℕ → ℕ → Answer Described
 trace_entry m s k = entry_if (has_body m s k) s k
 
 -- body k: its number, where the part starts, and the part, empty where the call declines

@@ -10,6 +10,7 @@ use lib.Bits.{bit_xor, xor_lt}
 use lib.Dec.{ltb, leb, lit<}
 use lib.ListN.{length, take, take-append-drop, length-append, length-drop}
 use lib.Seq.{take_all, take_at, drop_at}
+use Rattle.std.specs.Prelude.{fold}
 use Rattle.laws.specs.Bytes.{Bytes, big_endian, number}
 use Rattle.laws.specs.Steps.{steps}
 use Rattle.laws.proofs.Bytes.{length_big, number_big, big_number, bytes_drop}
@@ -23,6 +24,11 @@ digits = 49 ∷ 50 ∷ 51 ∷ 52 ∷ 53 ∷ 54 ∷ 55 ∷ 56 ∷ 57 ∷ []
 check-value : checked digits ≡ digits ++ (0x29 ∷ 0xB1 ∷ [])
 unfolding crc_from crc_byte crc_bit steps big_endian
 check-value = refl
+
+pub crc_is_fold : (s : List ℕ) (c : ℕ) → crc_from c s ≡ fold crc_byte c s
+unfolding crc_from
+crc_is_fold [] c = refl
+crc_is_fold (b ∷ s) c = crc_is_fold s (crc_byte c b)
 
 bit_small : (c : ℕ) → crc_bit c < 0x10000
 unfolding crc_bit

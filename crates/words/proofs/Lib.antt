@@ -1,4 +1,4 @@
 pub mod BytesAt
 pub mod CheckLaws
-pub mod LastTwo
+pub mod LibraryBytes
 pub mod Unique

@@ -6,6 +6,9 @@ use mathlib.Core.List.{List}
 use Prim.Native.Nat.{ℕ}
 use Rattle.laws.proofs.Unique.{the_result}
 use Rattle.words.proofs.bits.holds.Reads as holds
+use Rattle.words.proofs.bits.minus.Reads as minus
+use Rattle.words.proofs.bits.with.Reads as with
+use Rattle.words.proofs.bits.without.Reads as without
 use Rattle.words.proofs.check.crc_bit.Reads as crc-bit
 use Rattle.words.proofs.check.crc.Reads as crc
 use Rattle.words.proofs.check.seal.Reads as seal
@@ -17,6 +20,15 @@ use Rattle.words.proofs.numbers.four_bytes.Reads as four_bytes
 
 pub holds-once : (κs a : _) (r s : Bool) (x y : _) → holds.Learnt κs a r x → holds.Learnt κs a s y → r ≡ s
 holds-once κs a r s x y p q = the_result p q
+
+pub with_once : (κs a : _) (r s : ℕ) (x y : _) → with.Learnt κs a r x → with.Learnt κs a s y → r ≡ s
+with_once κs a r s x y p q = the_result p q
+
+pub without_once : (κs a : _) (r s : ℕ) (x y : _) → without.Learnt κs a r x → without.Learnt κs a s y → r ≡ s
+without_once κs a r s x y p q = the_result p q
+
+pub minus_once : (κs a : _) (r s : ℕ) (x y : _) → minus.Learnt κs a r x → minus.Learnt κs a s y → r ≡ s
+minus_once κs a r s x y p q = the_result p q
 
 pub of_two_once : (κs a : _) (r s : ℕ) (x y : _) → of_two.Learnt κs a r x → of_two.Learnt κs a s y → r ≡ s
 of_two_once κs a r s x y p q = the_result p q
@@ -36,8 +48,8 @@ crc_bit-once κs a r s x y p q = the_result p q
 pub crc_once : (κs a : _) (r s : ℕ) (x y : _) → crc.Learnt κs a r x → crc.Learnt κs a s y → r ≡ s
 crc_once κs a r s x y p q = the_result p q
 
-pub intact-once : (κs a : _) (r s : Bool) (x y : _) → intact.Learnt κs a r x → intact.Learnt κs a s y → r ≡ s
-intact-once κs a r s x y p q = the_result p q
+pub intact-once : (κs g d m l a : _) (r s : Bool) (x y : _) → intact.Learnt κs g d m l a r x → intact.Learnt κs g d m l a s y → r ≡ s
+intact-once κs g d m l a r s x y p q = the_result p q
 
-pub seal_once : (κs a r s x y : _) → seal.Learnt κs a r x → seal.Learnt κs a s y → x.0.now ≡ y.0.now
-seal_once κs a r s x y p q = the_result p q
+pub seal_once : (κs g d m l a r s x y : _) → seal.Learnt κs g d m l a r x → seal.Learnt κs g d m l a s y → x.0.now ≡ y.0.now
+seal_once κs g d m l a r s x y p q = the_result p q

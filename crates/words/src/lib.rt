@@ -5,6 +5,6 @@ mod bits;
 mod check;
 mod numbers;
 
-pub use bits::holds;
-pub use check::{crc, crc_bit, intact, seal};
+pub use bits::{holds, minus, with, without};
+pub use check::{ByBits, Check, crc, crc_bit, intact, seal};
 pub use numbers::{four_bytes, of_four, of_two, two_bytes};

@@ -1,19 +1,14 @@
 use Rattle.laws.proofs.Branches.{branch}
+use Rattle.ports.proofs.Owners.{among_le}
 use Rattle.hearing.specs.Votes.{heeded}
 use Rattle.hearing.proofs.vote.Goals as goal
 
-pub holds-requires : goal.holds-requires
-unfolding heeded
-holds-requires c = search branch
-
-pub others-requires : goal.others-requires
-unfolding heeded
-others-requires c = search branch
+pub overflow_sub-ballot : goal.overflow_sub-ballot
+overflow_sub-ballot c = rw c.among.ensures (among_le _ _ _)
 
 pub returns-then-holds : goal.returns-then-holds
 unfolding heeded
-returns-then-holds c = rw (← c.holds.ensures, c.if-holds.true, ← c.others.ensures)
+returns-then-holds c = rw (← c.holds.ensures, c.if-holds.true, c.among.ensures)
 
 pub returns-else-holds : goal.returns-else-holds
-unfolding heeded
 returns-else-holds c = search branch

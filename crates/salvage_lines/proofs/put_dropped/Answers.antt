@@ -1,15 +1,15 @@
 -- `salvage_lines::put_dropped` meets its contract.
-use borrow.Author.Tests.{eq-eqb, ne_eqb}
-use Rattle.lines.proofs.Putting.{nothing, then}
+use Rattle.body_fates.proofs.Sound.{kept_seen}
+use Rattle.lines.proofs.Putting.{nothing_put, both_put}
 use Rattle.salvage_lines.specs.Dropped.{dropped_line}
 use Rattle.salvage_lines.proofs.put_dropped.Goals as goal
 
-pub returns-then-fate-eq-KEPT : goal.returns-then-fate-eq-KEPT
+pub returns-then-eq : goal.returns-then-eq
 unfolding dropped_line
-returns-then-fate-eq-KEPT c = rw (eq-eqb _ _ c.if-fate-eq-KEPT.true) (nothing _ _)
+returns-then-eq c = rw (← kept_seen c.args.fate, ← c.if-eq.ensures) (nothing_put _)
 
 pub returns : goal.returns
 unfolding dropped_line
 returns c =
-    rw (ne_eqb _ _ c.if-fate-eq-KEPT.false)
-    (then (then (then c.put_number-gap.ensures _ _ _ c.put_byte-reason.ensures) _ _ _ c.put_word-end.ensures) _ _ _ c.put_byte.ensures)
+    rw (← kept_seen c.args.fate, ← c.if-eq.ensures, ← c.word.ensures, ← c.from.ensures)
+    (both_put (both_put (both_put c.put_number.ensures c.put_byte.ensures) c.put_text.ensures) c.put_byte-2.ensures)

@@ -1,11 +1,8 @@
-use mathlib.Core.Path.{◌≡◌, ◌∙◌}
+use mathlib.Core.Path.{◌∙◌}
 use Prim.Native.Nat.{◌≤◌, ◌+◌, ◌*◌}
-use native.Mathlib.Nat.{le_refl}
 use native.Mathlib.Omega.{arith}
 use borrow.Author.Rules.{rules}
-use borrow.Rule.Slice.PartMut.{mid_len}
 use lib.ListN.{length, get_or}
-use Rattle.frames.specs.Part.{most_ports}
 use Rattle.laws.specs.Steps.{steps}
 use Rattle.laws.specs.Bytes.{big_endian}
 use Rattle.laws.proofs.Bytes.{length_big}
@@ -16,17 +13,9 @@ pub loop-i-init : goal.loop-i-init
 unfolding steps
 loop-i-init c = search rules
 
-pub put_set-requires : goal.put_set-requires
-put_set-requires c = let l = c.loop-i in omega (arith, mid_len (l.i * 2) (length l.out) l.out (le_refl (length l.out)))
-
 pub loop-i-preserved : goal.loop-i-preserved
 loop-i-preserved c =
     let l = c.loop-i in
     let a = c.args in
     let room : l.i * 2 + 2 ≤ length l.out = omega arith in
-    (omega arith, next-part (λ k. big_endian 2 (get_or a.sets k 0)) 2 (λ k. length_big 2 (get_or a.sets k 0)) l.i l.out a.out.now _ l.invariant.1 room c.put_set.ensures, c.out-1.given.1 ∙ l.invariant.2)
-
-pub returns : goal.returns
-returns c =
-    let e : c.loop-i.i ≡ most_ports = omega arith in
-    rw e at c.loop-i.invariant.1
+    (next-part (λ k. big_endian 2 (get_or a.sets k 0)) 2 (λ k. length_big 2 (get_or a.sets k 0)) l.i l.out a.out.now _ l.invariant.0 room c.put_set.ensures, c.out-1.given.1 ∙ l.invariant.1)

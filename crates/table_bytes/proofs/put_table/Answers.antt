@@ -7,10 +7,6 @@ pub returns-then-out-lt-TABLE_LEN : goal.returns-then-out-lt-TABLE_LEN
 unfolding table_put
 returns-then-out-lt-TABLE_LEN c = (rw (lt-leb _ _ c.if-out-lt-TABLE_LEN.true), search rules)
 
-pub put-requires : goal.put-requires
-unfolding table_put
-put-requires c = search rules
-
 pub shape_of-out : goal.shape_of-out
 unfolding table_put
 shape_of-out c = search rules

@@ -1,19 +1,10 @@
-use borrow.Author.Rules.{rules}
 use borrow.Author.Tests.{le-leb, lt-leb}
 use Rattle.table_bytes.specs.Table.{table_in}
 use Rattle.table_bytes.proofs.table_in.Goals as goal
 
-pub empty_table-requires : goal.empty_table-requires
-unfolding table_in
-empty_table-requires c = search rules
-
 pub returns-then-bytes-lt-TABLE_LEN : goal.returns-then-bytes-lt-TABLE_LEN
 unfolding table_in
 returns-then-bytes-lt-TABLE_LEN c = rw (lt-leb _ _ c.if-bytes-lt-TABLE_LEN.true) c.empty_table.ensures
-
-pub read-requires : goal.read-requires
-unfolding table_in
-read-requires c = search rules
 
 pub returns : goal.returns
 unfolding table_in

@@ -4,21 +4,21 @@ use Rattle.body_fates.specs.Fate.{fate}
 use Rattle.body_fates.proofs.Sound.{of-form, out_of_form}
 use Rattle.body_fates.proofs.body.body_fate.Goals as goal
 
-pub returns-then-read-eq0 : goal.returns-then-read-eq0
+pub returns-in-Ok : goal.returns-in-Ok
 unfolding fate
-returns-then-read-eq0 c =
+returns-in-Ok c =
     let is = sym c.complete.ensures ∙ c.if-complete.true in
-    rw (is, ← c.long_intact.ensures, c.if-long_intact.true, of-form _ _ _ _ is _ c.read_fields-read.ensures c.if-read-eq0.true)
+    rw (is, ← c.intact.ensures, c.if-intact.true, of-form _ _ _ _ is _ c.in-Ok.ensures)
 
-pub returns-then-long_intact : goal.returns-then-long_intact
+pub returns-in-Err : goal.returns-in-Err
 unfolding fate
-returns-then-long_intact c =
+returns-in-Err c =
     let is = sym c.complete.ensures ∙ c.if-complete.true in
-    rw (is, ← c.long_intact.ensures, c.if-long_intact.true, out_of_form _ _ _ _ is _ c.read_fields-read.ensures c.if-read-eq0.false)
+    rw (is, ← c.intact.ensures, c.if-intact.true, out_of_form _ _ _ _ is _ c.in-Err.ensures)
 
 pub returns-then-complete : goal.returns-then-complete
 unfolding fate
-returns-then-complete c = rw (← c.complete.ensures, c.if-complete.true, ← c.long_intact.ensures, c.if-long_intact.false)
+returns-then-complete c = rw (← c.complete.ensures, c.if-complete.true, ← c.intact.ensures, c.if-intact.false)
 
 pub returns : goal.returns
 unfolding fate

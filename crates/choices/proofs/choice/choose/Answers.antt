@@ -1,15 +1,10 @@
 use Rattle.choices.specs.Within.{choice_within}
-use Rattle.choices.proofs.Ports.{two_ports}
 use Rattle.choices.proofs.choice.choose.Goals as goal
 
-pub scanned-requires : goal.scanned-requires
+pub returns-in-Some : goal.returns-in-Some
 unfolding choice_within
-scanned-requires c = two_ports _ _ _ c.if-n-from.true
+returns-in-Some c = rw c.in-Some.ensures.0 (rw (c.in-Some.ensures.1, c.in-Some.ensures.2) at c.choose.ensures.0)
 
-pub returns-then-n-from : goal.returns-then-n-from
+pub returns-in-None : goal.returns-in-None
 unfolding choice_within
-returns-then-n-from c = rw c.if-n-from.true c.scanned.ensures.0
-
-pub returns-else-n-from : goal.returns-else-n-from
-unfolding choice_within
-returns-else-n-from c = rw c.if-n-from.false
+returns-in-None c = rw c.in-None.ensures

@@ -4,22 +4,6 @@ use Rattle.choices.proofs.Ports.{is_chosen, is_join}
 use Rattle.distributed.specs.Offers.{accept}
 use Rattle.distributed.proofs.distributed.accept.Goals as goal
 
-pub turned-from-requires : goal.turned-from-requires
-unfolding accept
-turned-from-requires c = search rules
-
-pub choose-requires : goal.choose-requires
-unfolding accept
-choose-requires c = search rules
-
-pub holds-requires : goal.holds-requires
-unfolding accept
-holds-requires c = search rules
-
-pub join_pair-requires : goal.join_pair-requires
-unfolding accept
-join_pair-requires c = search rules
-
 pub returns-then-holds : goal.returns-then-holds
 unfolding accept
 returns-then-holds c =

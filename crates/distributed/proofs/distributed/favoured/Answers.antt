@@ -5,22 +5,6 @@ use Rattle.choices.specs.Join.{join_live}
 use Rattle.choices.proofs.Ports.{is_join}
 use Rattle.distributed.proofs.distributed.favoured.Goals as goal
 
-pub offset_bounds-work-at : goal.offset_bounds-work-at
-unfolding join_live
-offset_bounds-work-at c = search branch
-
-pub bounds-work-at : goal.bounds-work-at
-unfolding join_live
-bounds-work-at c = search branch
-
-pub holds-requires : goal.holds-requires
-unfolding join_live
-holds-requires c = search branch
-
-pub join_pair-requires : goal.join_pair-requires
-unfolding join_live
-join_pair-requires c = search branch
-
 pub returns-then-holds : goal.returns-then-holds
 unfolding join_live
 returns-then-holds c = rw (← c.holds.ensures, c.if-holds.true) (is_join most_ports _ _ _ c.join_pair.ensures (search rules) (search rules))

@@ -1,11 +1,7 @@
-use borrow.Author.Rules.{rules}
+use Rattle.std.proofs.Common.{rules}
 use Rattle.distributed.specs.Distributed.{one_more}
 use Rattle.distributed.proofs.distributed.one_more.Goals as goal
 
-pub round-requires : goal.round-requires
-unfolding one_more
-round-requires c = search rules
-
 pub returns : goal.returns
 unfolding one_more
-returns c = (rw (c.requires.2, ← c.round.ensures), search rules)
+returns c = (rw (c.requires.1, ← c.round.ensures), search rules)

@@ -1,10 +1,7 @@
 use mathlib.Core.Path.{◌≡◌}
-use Prim.Native.Nat.{◌≤◌, ◌-◌}
+use Prim.Native.Nat.{◌≤◌}
 use Rattle.distributed.specs.Distributed.{rounds}
 use Rattle.distributed.proofs.distributed.rounds_of.Given as goal
 
 abbrev pub invariant-loop-k : goal.invariant-loop-k
-invariant-loop-k l = (l.k ≤ l.limit) × (l.run ≡ rounds l.state l.initial.run l.k) × (l.run.rounds ≤ l.k)
-
-abbrev pub decreases-loop-k : goal.decreases-loop-k
-decreases-loop-k l = l.limit - l.k
+invariant-loop-k l = (l.run ≡ rounds l.shelf.state l.initial.run l.k) × (l.run.rounds ≤ l.k)

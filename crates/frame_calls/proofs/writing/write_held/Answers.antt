@@ -1,22 +1,11 @@
+-- `frame_calls::writing::write_held` meets its contract.
 use mathlib.Core.Path.{refl}
-use borrow.Author.Rules.{rules}
+use native.Mathlib.Omega.{arith}
 use borrow.Author.Tests.{le-ltb}
 use Rattle.frames.specs.Frame.{written}
 use Rattle.frames.specs.Held.{held_in_form}
 use Rattle.frame_calls.proofs.writing.write_held.Goals as goal
 
-pub returns-then-node : goal.returns-then-node
+pub returns-in_default : goal.returns-in_default
 unfolding held_in_form written
-returns-then-node c = rw (le-ltb _ _ c.if-node.true) (refl, refl)
-
-pub write_held-requires : goal.write_held-requires
-unfolding held_in_form written
-write_held-requires c = search rules
-
-pub shape_of-out : goal.shape_of-out
-unfolding held_in_form written
-shape_of-out c = search rules
-
-pub returns : goal.returns
-unfolding held_in_form written
-returns c = c.write_held.ensures
+returns-in_default c = rw (le-ltb c.args.node 16 (grind (arith, c.in_default.ensures))) (refl, refl)

@@ -11,7 +11,7 @@ pub returns-then-in_form : goal.returns-then-in_form
 returns-then-in_form c =
     let formed = sym c.in_form.ensures ∙ c.if-in_form.true in
     let long = length_held narrow c.args.g in
-    rw formed (put_frame (held_len narrow) _ _ _ _ _ c.frame-frame.ensures long c.put.ensures)
+    rw formed (put_frame (held_len narrow) _ _ _ _ _ c.frame.ensures long c.put.ensures)
 
 pub returns : goal.returns
 unfolding written

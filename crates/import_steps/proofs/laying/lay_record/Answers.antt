@@ -1,34 +1,23 @@
 -- `import_steps::laying::lay_record` meets its contract.
-use Rattle.import_steps.proofs.Placing.{declined, too_short, laid, ported, long, frame_is, frame_long, placeable}
-use Rattle.std.proofs.Common.{arith}
+use Rattle.std.proofs.Common.{sym}
+use Rattle.std.proofs.lemmas.Result.{err_from_is_err_and}
+use Rattle.refusals.proofs.Unique.{refused_is_not_done}
+use Rattle.import_steps.specs.Taking.{known}
+use Rattle.import_steps.proofs.Placing.{declined, too_short, laid}
 use Rattle.import_steps.proofs.laying.lay_record.Goals as goal
 
-pub returns-then-q-ne0 : goal.returns-then-q-ne0
-returns-then-q-ne0 c = declined _ _ _ _ _ c.take_record-q.ensures _ c.if-q-ne0.true
+pub returns-in_err-step : goal.returns-in_err-step
+returns-in_err-step c =
+    let is = c.in_err-step.ensures.0 in
+    let why = err_from_is_err_and c.from_residual.result c.from_residual.ensures.1 in
+    rw (why.1, why.2, is) (declined _ (known c.args.p) _ c.args.body.now (rw is at (refused_is_not_done c.in_err-step.field-0.0)))
 
-pub block_at-requires : goal.block_at-requires
-block_at-requires c = ported _ _ _ _ _ c.take_record-q.ensures c.if-q-ne0.false
-
-pub returns-then-body-block_at : goal.returns-then-body-block_at
-returns-then-body-block_at c = too_short _ _ _ _ _ c.take_record-q.ensures _ c.if-q-ne0.false (rw c.block_at.ensures.0 at c.if-body-block_at.true)
-
-pub slice_bounds-place-count : goal.slice_bounds-place-count
-slice_bounds-place-count c = omega (arith, long _ _ _ _ _ c.take_record-q.ensures c.if-q-ne0.false)
-
-pub slice_bounds-place-start : goal.slice_bounds-place-start
-slice_bounds-place-start c = omega (arith, long _ _ _ _ _ c.take_record-q.ensures c.if-q-ne0.false)
-
-pub place-requires : goal.place-requires
-place-requires c =
-    let taken = c.take_record-q.ensures in
-    let none = c.if-q-ne0.false in
-    let (some, ports) = ported _ _ _ _ _ taken none in
-    let (host, same, begun) = placeable _ _ _ _ _ taken _ c.read_packet-k.ensures none in
-    (some, ports, host, same, begun, frame_long _ _ _ _ _ taken none, rw c.block_at.ensures.0 at c.if-body-block_at.false)
+pub returns-then-body-end : goal.returns-then-body-end
+returns-then-body-end c =
+    let (is, (before, packet, bytes)) = c.in_ok-step.ensures in
+    too_short _ (known c.args.p) _ c.args.body.now (sym is) (rw (c.end.ensures.0, before, packet) at c.if-body-end.true)
 
 pub returns : goal.returns
 returns c =
-    let taken = c.take_record-q.ensures in
-    let none = c.if-q-ne0.false in
-    laid _ _ _ _ _ taken _ _ none (rw c.block_at.ensures.0 at c.if-body-block_at.false)
-    (rw (← c.read_packet-k.ensures, ← frame_is _ _ _ _ _ taken none) c.place.ensures)
+    let (is, (before, packet, bytes)) = c.in_ok-step.ensures in
+    laid _ (known c.args.p) _ c.args.body.now _ (sym is) (rw (c.end.ensures.0, before, packet) at c.if-body-end.false) (rw (before, packet, bytes) at c.place.ensures)

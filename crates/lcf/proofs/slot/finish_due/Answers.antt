@@ -1,25 +1,20 @@
-use Rattle.std.proofs.Common.{sym, ◌∙◌, rules, eq-eqb, ne_eqb}
+use Rattle.std.proofs.Common.{sym}
+use Rattle.std.proofs.lemmas.Result.{err_from_is_err_and}
+use Rattle.refusals.proofs.Unique.{not_done}
 use Rattle.frames.specs.Part.{most_ports}
 use Rattle.ports.proofs.Numbers.{served}
 use Rattle.lcf.specs.Slot.{finish_due}
 use Rattle.lcf.proofs.slot.finish_due.Goals as goal
 
-pub due_number-number-requires : goal.due_number-number-requires
+pub returns-in_err-check_due : goal.returns-in_err-check_due
 unfolding finish_due
-due_number-number-requires c = search rules
+returns-in_err-check_due c =
+    let p = err_from_is_err_and c.from_residual.result c.from_residual.ensures.1 in
+    rw (p.1, p.2, ← c.in_err-check_due.ensures, not_done)
 
-pub finish-requires : goal.finish-requires
+pub returns : goal.returns
 unfolding finish_due
-finish-requires c = let s = served most_ports _ _ _ (sym c.due_number-number.ensures ∙ c.if-number-eq0.true) in (s.ready, s.limit)
+returns c = rw (← c.in_ok-check_due.ensures) c.finish.ensures
 
-pub declined-requires : goal.declined-requires
-unfolding finish_due
-declined-requires c = search rules
-
-pub returns-then-number-eq0 : goal.returns-then-number-eq0
-unfolding finish_due
-returns-then-number-eq0 c = rw (← c.due_number-number.ensures, eq-eqb _ _ c.if-number-eq0.true) c.finish.ensures
-
-pub returns-else-number-eq0 : goal.returns-else-number-eq0
-unfolding finish_due
-returns-else-number-eq0 c = rw (← c.due_number-number.ensures, ne_eqb _ _ c.if-number-eq0.false) c.declined.ensures
+pub invariant_of-finish : goal.invariant_of-finish
+invariant_of-finish c = let s = served most_ports _ _ _ (sym c.in_ok-check_due.ensures) in record { ready = s.ready; limit = s.limit }

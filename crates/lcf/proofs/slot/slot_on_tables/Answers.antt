@@ -1,29 +1,20 @@
-use Rattle.std.proofs.Common.{sym, ◌∙◌, rules, eq-eqb, ne_eqb}
+use Rattle.std.proofs.Common.{sym}
+use Rattle.std.proofs.lemmas.Result.{err_from_is_err_and}
+use Rattle.refusals.proofs.Unique.{not_done}
 use Rattle.frames.specs.Part.{most_ports}
 use Rattle.ports.proofs.Numbers.{served, orderly_same}
 use Rattle.lcf.specs.Slot.{matched, slot_on_tables}
 use Rattle.lcf.proofs.slot.slot_on_tables.Goals as goal
 
-pub due_number-number-requires : goal.due_number-number-requires
-unfolding slot_on_tables matched
-due_number-number-requires c = search rules
+pub returns-in_err-check_due : goal.returns-in_err-check_due
+unfolding slot_on_tables
+returns-in_err-check_due c =
+    let p = err_from_is_err_and c.from_residual.result c.from_residual.ensures.1 in
+    rw (p.1, p.2, ← c.in_err-check_due.ensures, not_done)
 
-pub start-requires : goal.start-requires
+pub returns : goal.returns
 unfolding slot_on_tables matched
-start-requires c = search rules
+returns c = rw (← c.in_ok-check_due.ensures, ← rw (orderly_same most_ports _ (served most_ports _ _ _ (sym c.in_ok-check_due.ensures)).ready) at c.start.ensures) c.finish.ensures
 
-pub finish-requires : goal.finish-requires
-unfolding slot_on_tables matched
-finish-requires c = let s = served most_ports _ _ _ (sym c.due_number-number.ensures ∙ c.if-number-eq0.true) in (s.ready, s.limit)
-
-pub declined-requires : goal.declined-requires
-unfolding slot_on_tables matched
-declined-requires c = search rules
-
-pub returns-then-number-eq0 : goal.returns-then-number-eq0
-unfolding slot_on_tables matched
-returns-then-number-eq0 c = rw (← c.due_number-number.ensures, eq-eqb _ _ c.if-number-eq0.true, ← rw (orderly_same most_ports _ (served most_ports _ _ _ (sym c.due_number-number.ensures ∙ c.if-number-eq0.true)).ready) at c.start.ensures) c.finish.ensures
-
-pub returns-else-number-eq0 : goal.returns-else-number-eq0
-unfolding slot_on_tables matched
-returns-else-number-eq0 c = rw (← c.due_number-number.ensures, ne_eqb _ _ c.if-number-eq0.false) c.declined.ensures
+pub invariant_of-finish : goal.invariant_of-finish
+invariant_of-finish c = let s = served most_ports _ _ _ (sym c.in_ok-check_due.ensures) in record { ready = s.ready; limit = s.limit }

@@ -1,24 +1,20 @@
-use borrow.Author.Rules.{rules}
-use borrow.Author.Tests.{eq-eqb, ne_eqb}
-use Rattle.ledger.specs.Ledger.{number, feed}
+use Rattle.std.proofs.Common.{sym, ap, ◌∙◌}
+use Rattle.std.proofs.lemmas.Result.{err_from_is_err_and}
+use Rattle.frames.specs.Part.{most_ports}
+use Rattle.ledger.specs.Ledger.{refusal, number}
+use Rattle.ledger.proofs.Feeds.{feed_declines, feed_counts}
 use Rattle.ledger.proofs.book.feed.Goals as goal
 
-pub over-requires : goal.over-requires
-unfolding number feed
-over-requires c = search rules
-
-pub refusal-number-requires : goal.refusal-number-requires
-unfolding number feed
-refusal-number-requires c = search rules
+pub returns-in_err-refusal : goal.returns-in_err-refusal
+unfolding number
+returns-in_err-refusal c =
+    let p = err_from_is_err_and c.from_residual.result c.from_residual.ensures.1 in
+    rw (p.1, p.2) (feed_declines most_ports _ _ _ _ _ (c.in_err-refusal.ensures ∙ ap (refusal most_ports c.args.n _) c.over.ensures))
 
 pub next-requires : goal.next-requires
-unfolding number feed
-next-requires c = rw (← c.over.ensures, ← c.refusal-number.ensures) c.if-number-eq0.true
+unfolding number
+next-requires c = rw (← c.over.ensures) (sym c.in_ok-refusal.ensures)
 
-pub returns-then-number-eq0 : goal.returns-then-number-eq0
-unfolding number feed
-returns-then-number-eq0 c = rw (← c.over.ensures, ← c.refusal-number.ensures, eq-eqb _ _ c.if-number-eq0.true, c.next.ensures)
-
-pub returns-else-number-eq0 : goal.returns-else-number-eq0
-unfolding number feed
-returns-else-number-eq0 c = rw (← c.over.ensures, ← c.refusal-number.ensures, ne_eqb _ _ c.if-number-eq0.false)
+pub returns : goal.returns
+unfolding number
+returns c = rw c.next.ensures (feed_counts most_ports _ _ _ _ (rw (← c.over.ensures) (sym c.in_ok-refusal.ensures)))

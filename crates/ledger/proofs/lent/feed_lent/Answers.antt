@@ -1,33 +1,22 @@
-use borrow.Author.Rules.{rules}
-use mathlib.Core.Path.{refl, sym, ◌∙◌}
-use borrow.Author.Tests.{eq-eqb, ne_eqb}
-use Rattle.ledger.specs.Lent.{lent_number, lent_feed}
+use Rattle.std.proofs.Common.{sym, ap, ◌∙◌}
+use Rattle.std.proofs.lemmas.Result.{err_from_is_err_and}
+use Rattle.frames.specs.Part.{most_ports}
+use Rattle.ledger.specs.Ledger.{number, next}
+use Rattle.ledger.specs.Lent.{ledger_of, words_of}
+use Rattle.ledger.proofs.LentLaws.{lent_unfit, lent_declines, lent_counts}
 use Rattle.ledger.proofs.lent.feed_lent.Goals as goal
 
-pub returns-then-words-ne-WORDS : goal.returns-then-words-ne-WORDS
-unfolding lent_number lent_feed
-returns-then-words-ne-WORDS c = rw (ne_eqb _ _ c.if-words-ne-WORDS.true) (refl, refl)
+pub returns-in_default : goal.returns-in_default
+returns-in_default c = lent_unfit most_ports _ _ _ _ c.in_default.ensures.cases
 
-pub number_of-number-requires : goal.number_of-number-requires
-unfolding lent_number lent_feed
-number_of-number-requires c = search rules
-
-pub shape_of-words-then-number-ne0 : goal.shape_of-words-then-number-ne0
-unfolding lent_number lent_feed
-shape_of-words-then-number-ne0 c = search rules
-
-pub returns-then-number-ne0 : goal.returns-then-number-ne0
-unfolding lent_number lent_feed
-returns-then-number-ne0 c = rw (eq-eqb _ _ c.if-words-ne-WORDS.false, ← c.number_of-number.ensures, ne_eqb _ _ c.if-number-ne0.true) (refl, refl)
-
-pub count-requires : goal.count-requires
-unfolding lent_number lent_feed
-count-requires c = (c.if-words-ne-WORDS.false, sym c.number_of-number.ensures ∙ c.if-number-ne0.false)
-
-pub shape_of-words : goal.shape_of-words
-unfolding lent_number lent_feed
-shape_of-words c = search rules
+pub returns-in_err-declined : goal.returns-in_err-declined
+returns-in_err-declined c =
+    let p = err_from_is_err_and c.from_residual.result c.from_residual.ensures.1 in
+    let whole = c.in-Some.ensures.cases in
+    rw (p.1, p.2) (lent_declines most_ports _ _ _ _ whole.long _ _ whole.same (c.in_err-declined.ensures ∙ ap (λ w. number most_ports (ledger_of most_ports w) c.args.n) whole.same))
 
 pub returns : goal.returns
-unfolding lent_number lent_feed
-returns c = rw (eq-eqb _ _ c.if-words-ne-WORDS.false, ← c.number_of-number.ensures, c.if-number-ne0.false) (refl, c.count.ensures)
+returns c =
+    let whole = c.in-Some.ensures.cases in
+    lent_counts most_ports _ _ _ _ whole.long _ (rw (← whole.same) (sym c.in_ok-declined.ensures))
+    (c.count.ensures ∙ ap (λ w. words_of (next most_ports (ledger_of most_ports w) c.args.n c.args.asked c.args.connected)) whole.same)

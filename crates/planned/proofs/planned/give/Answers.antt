@@ -4,18 +4,6 @@ use Rattle.choices.proofs.Ports.{is_join}
 use Rattle.planned.specs.Planned.{give}
 use Rattle.planned.proofs.planned.give.Goals as goal
 
-pub planner-i-requires : goal.planner-i-requires
-unfolding give
-planner-i-requires c = search rules
-
-pub holds-requires : goal.holds-requires
-unfolding give
-holds-requires c = search rules
-
-pub join_pair-requires : goal.join_pair-requires
-unfolding give
-join_pair-requires c = search rules
-
 pub returns-then-holds : goal.returns-then-holds
 unfolding give
 returns-then-holds c = rw (← c.planner-i.ensures.0, ← c.holds.ensures, c.if-holds.true) (is_join most_ports _ _ _ c.join_pair.ensures (search rules) (search rules))

@@ -3,4 +3,4 @@ use Rattle.planned.proofs.Begun.{plans}
 use Rattle.planned.proofs.planned.planner.Goals as goal
 
 pub returns : goal.returns
-returns c = plans most_ports _ _ _ c.requires.0 c.requires.1 c.turned-from.ensures c.column.ensures c.choose.ensures
+returns c = plans most_ports _ _ _ c.args.shelf.ready c.requires c.turned-from.ensures c.column.ensures c.choose.ensures

@@ -4,11 +4,16 @@ use Rattle.queue_records.specs.Order.{most_cells, cell_len}
 use Rattle.queue_calls.proofs.Slots.{wrong_state, wrong_table, ran}
 use Rattle.queue_calls.proofs.slot_call.bellacush_queue_slot.Goals as goal
 
-pub returns-then-state-ne-STATE_LEN : goal.returns-then-state-ne-STATE_LEN
-returns-then-state-ne-STATE_LEN c = wrong_state most_ports most_cells cell_len _ _ _ _ _ _ _ c.if-state-ne-STATE_LEN.true
+pub returns-in_default : goal.returns-in_default
+returns-in_default c = wrong_state most_ports most_cells cell_len _ _ _ _ _ _ _ c.in_default.ensures.cases
 
-pub returns-then-table-ne-TABLE_LEN : goal.returns-then-table-ne-TABLE_LEN
-returns-then-table-ne-TABLE_LEN c = wrong_table most_ports most_cells cell_len _ _ _ _ _ _ _ c.if-state-ne-STATE_LEN.false c.if-table-ne-TABLE_LEN.true
+pub returns-in_default-as_mut_array : goal.returns-in_default-as_mut_array
+returns-in_default-as_mut_array c =
+    let nine = c.in-Some.ensures.cases in
+    rw nine.same (wrong_table most_ports most_cells cell_len _ _ _ _ _ _ _ nine.long c.in_default-as_mut_array.ensures.cases)
 
 pub returns : goal.returns
-returns c = ran most_ports most_cells cell_len _ _ _ _ _ _ _ _ _ _ _ _ _ _ _ c.if-state-ne-STATE_LEN.false c.if-table-ne-TABLE_LEN.false c.state_in.ensures c.mode_of.ensures c.slot-stepped.ensures c.store.ensures c.word_of.ensures
+returns c =
+    let nine = c.in-Some.ensures.cases in
+    let whole = c.in-Some-as_mut_array.ensures.cases in
+    ran most_ports most_cells cell_len _ _ _ _ _ _ _ _ _ _ _ _ _ _ _ nine.long whole.long (rw nine.same at c.state_in.ensures) c.from.ensures c.slot-stepped.ensures (rw (nine.same, whole.same) at c.finish_call.ensures)

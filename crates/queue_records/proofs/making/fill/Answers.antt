@@ -1,12 +1,11 @@
 -- `queue_records::making::fill` meets its contract.
 use mathlib.Core.Path.{◌≡◌, refl, ◌∙◌}
-use mathlib.Core.List.{List, [], ◌∷◌, ◌++◌, append-nil}
+use mathlib.Core.List.{List, [], ◌∷◌, ◌++◌}
 use Prim.Native.Nat.{ℕ, ◌+◌, ◌<◌}
 use native.Mathlib.Nat.{mul-one}
 use native.Mathlib.Numerals.{add-one}
-use native.Mathlib.Omega.{arith}
 use borrow.Author.Rules.{rules}
-use lib.ListN.{length, set, drop, drop_of_length-le, length-set}
+use lib.ListN.{length, set, drop, length-set}
 use Rattle.frames.specs.Part.{most_ports}
 use Rattle.laws.specs.Steps.{steps}
 use Rattle.laws.proofs.Parts.{length_parts}
@@ -23,19 +22,10 @@ next old now k x h is of = rw (is, of) (put_next (fresh_entries most_ports k) ol
 
 pub loop-k-init : goal.loop-k-init
 unfolding steps
-loop-k-init c = (search rules, refl, refl)
+loop-k-init c = (refl, refl)
 
 pub loop-k-preserved : goal.loop-k-preserved
 loop-k-preserved c =
     let l = c.loop-k in
-    let is = l.invariant.2 in
-    (search rules, simp length-set l.invariant.1, next c.args.entries.now l.entries l.k c.fresh_entry.result (search rules) is c.fresh_entry.ensures)
-
-pub shape_of-entries : goal.shape_of-entries
-shape_of-entries c = c.loop-k.invariant.1
-
-pub returns : goal.returns
-returns c =
-    let l = c.loop-k in
-    let all : l.k ≡ length c.args.entries.now = omega arith in
-    l.invariant.2 ∙ rw (drop_of_length-le c.args.entries.now {i = l.k} (omega arith), append-nil, all)
+    let is = l.invariant.1 in
+    (simp length-set l.invariant.0, next c.args.entries.now l.entries l.k c.fresh_entry.result (search rules) is c.fresh_entry.ensures)

@@ -11,4 +11,4 @@ pub returns : goal.returns
 returns c =
     let words = c.args.words.now in
     let size : 3 + count_of words - 3 ≡ count_of words = omega arith in
-    c.rows_of.ensures ∙ rw (c.mark_pairs.ensures, c.word-end.ensures.0, size) (marked-requests most_ports words)
+    c.rows_of.ensures ∙ rw (c.mark_pairs.ensures, c.held-end.ensures.0, size) (marked-requests most_ports words)

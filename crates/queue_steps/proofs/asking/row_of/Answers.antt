@@ -1,30 +1,21 @@
 -- `queue_steps::asking::row_of` meets its contract.
-use Rattle.laws.proofs.Loops.{loop}
+use mathlib.Core.Path.{ap, ◌∙◌}
+use mathlib.Core.Bool.{cond}
+use Prim.Native.Nat.{◌+◌, ◌*◌, ◌-◌}
+use native.Mathlib.Omega.{arith}
+use lib.Dec.{eqb}
+use lib.ListN.{drop, length-take}
+use lib.Seq.{get_or-take, get_or-drop}
+use Rattle.frames.specs.Part.{most_ports}
+use Rattle.laws.specs.Sets.{with}
+use Rattle.laws.proofs.Loops.{again}
 use Rattle.queue_steps.proofs.asking.row_of.Goals as goal
 
-pub loop-t-init : goal.loop-t-init
-loop-t-init c = search loop
-
-pub overflow_mul-i : goal.overflow_mul-i
-overflow_mul-i c = search loop
-
-pub overflow_add-i : goal.overflow_add-i
-overflow_add-i c = search loop
-
-pub bounds-marks-i : goal.bounds-marks-i
-bounds-marks-i c = search loop
-
-pub gather-s-requires : goal.gather-s-requires
-gather-s-requires c = search loop
-
-pub overflow_step-t : goal.overflow_step-t
-overflow_step-t c = search loop
-
-pub loop-t-smaller : goal.loop-t-smaller
-loop-t-smaller c = search loop
-
 pub loop-t-preserved : goal.loop-t-preserved
-loop-t-preserved c = search loop
-
-pub returns : goal.returns
-returns c = search loop
+loop-t-preserved c =
+    let l = c.loop-t in
+    let start = c.args.i * most_ports in
+    let rest = drop start c.args.marks.now in
+    let size = start + most_ports - start in
+    let mark = get_or-take size rest l.t 0 (omega (arith, length-take size rest)) ∙ get_or-drop start c.args.marks.now l.t 0 in
+    again _ _ l.t l.invariant (c.gather-s.ensures ∙ ap (λ d. cond (eqb d 1) (with l.s l.t) l.s) mark)

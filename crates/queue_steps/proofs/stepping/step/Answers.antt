@@ -17,4 +17,4 @@ returns-then-fits c = rw (← c.fits.ensures, c.if-fits.true) c.scheduled.ensure
 
 pub returns : goal.returns
 unfolding stepped
-returns c = rw (← c.fits.ensures, c.if-fits.false) c.declined.ensures
+returns c = rw (← c.fits.ensures, c.if-fits.false)

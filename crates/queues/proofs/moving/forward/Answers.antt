@@ -1,6 +1,5 @@
 -- `queues::moving::forward` meets its contract.
-use mathlib.Core.Path.{◌≡◌, refl, ap, ◌∙◌}
-use native.Mathlib.Omega.{arith}
+use mathlib.Core.Path.{ap, ◌∙◌}
 use borrow.Author.Rules.{rules}
 use lib.ListN.{length}
 use Rattle.frames.specs.Part.{most_ports}
@@ -10,35 +9,20 @@ use Rattle.queue_records.proofs.Pools.{length_stored, length_cell}
 use Rattle.queues.proofs.Partings.{one_out, all_out}
 use Rattle.queues.proofs.moving.forward.Goals as goal
 
-pub loop-j-init : goal.loop-j-init
-loop-j-init c = (search rules, refl, refl)
-
-pub show-requires : goal.show-requires
-show-requires c =
-    let l = c.loop-j in
-    let (cell, place) = c.requires.1 l.j (search rules) in
-    rw (c.cell_of.ensures, c.target_of.ensures.0) (cell, omega (arith, place, l.invariant.1))
-
-pub loop-j-preserved : goal.loop-j-preserved
-loop-j-preserved c =
-    let l = c.loop-j in
+pub loop-word-preserved : goal.loop-word-preserved
+loop-word-preserved c =
+    let l = c.loop-word in
     let a = c.args in
-    let (cell, place) = c.requires.1 l.j (search rules) in
-    let x = c.cell_of in
-    let t = c.target_of in
-    let s = c.show.ensures in
-    let full : length a.leavers ≡ most_ports = search rules in (
-      search rules,
-      ap length {y = stored cell_len l.out t.result.0 (cell_at cell_len a.pool.now x.result)} s ∙ length_stored cell_len l.out t.result.0 (cell_at cell_len a.pool.now x.result) (length_cell cell_len a.pool.now x.result (rw x.ensures cell)) (rw (t.ensures.0, l.invariant.1) place) ∙ l.invariant.1,
-      one_out most_ports cell_len a.pool.now a.leavers a.gone a.out.now l.j l.out _ x.result t.result.0 (search rules) (rw full c.requires.0) l.invariant.2 x.ensures t.ensures.0 s,
+    let (cell, place) = c.requires l.word-index (search rules) in
+    let x = c.from-entry.result.cell in
+    let t = c.from-entry.result.target.0 in
+    let is = c.from-entry.ensures in
+    let s = c.show.ensures in (
+      ap length {y = stored cell_len l.out t (cell_at cell_len a.pool.now x)} s ∙ length_stored cell_len l.out t (cell_at cell_len a.pool.now x) (length_cell cell_len a.pool.now x (rw is.0 cell)) (rw (is.2, l.invariant.0) place) ∙ l.invariant.0,
+      one_out most_ports cell_len a.pool.now a.leavers.now l.word-index a.out.now l.out _ x t (search rules) l.invariant.1 is.0 is.2 s,
     )
-
-pub shape_of-out : goal.shape_of-out
-shape_of-out c = c.loop-j.invariant.1
 
 pub returns : goal.returns
 returns c =
-    let l = c.loop-j in
-    let a = c.args in
-    let full : length a.leavers ≡ most_ports = search rules in
-    all_out most_ports cell_len a.pool.now a.leavers a.gone a.out.now l.j l.out (search rules) (rw full c.requires.0) l.invariant.2
+    let l = c.loop-word in
+    all_out most_ports cell_len c.args.pool.now c.args.leavers.now l.word-index c.args.out.now l.out (search rules) l.invariant.1

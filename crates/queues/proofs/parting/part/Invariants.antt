@@ -1,13 +1,10 @@
 -- `queues::parting::part` meets its contract.
 use mathlib.Core.Path.{◌≡◌}
-use Prim.Native.Nat.{◌-◌, ◌≤◌}
+use Prim.Native.Nat.{◌≤◌}
 use lib.ListN.{length}
 use Rattle.frames.specs.Part.{most_ports}
 use Rattle.queues.proofs.Partings.{Parting}
 use Rattle.queues.proofs.parting.part.Given as goal
 
 abbrev pub invariant-loop-k : goal.invariant-loop-k
-invariant-loop-k l = (l.k ≤ l.held) × (l.kept ≤ l.k) × (length l.entries ≡ length l.initial.entries) × Parting most_ports l.initial.left l.initial.entries l.held l.initial.leavers l.k l.kept l.left l.entries l.leavers
-
-abbrev pub decreases-loop-k : goal.decreases-loop-k
-decreases-loop-k l = l.held - l.k
+invariant-loop-k l = (l.kept ≤ l.k) × (length l.entries ≡ length l.initial.entries) × Parting most_ports l.initial.left l.initial.entries l.initial.leavers l.k l.kept l.left l.entries l.leavers

@@ -1,40 +1,33 @@
 -- `queues::parting::take_heads` meets its contract.
-use native.Mathlib.Omega.{arith}
+use mathlib.Core.Path.{sym, ◌∙◌}
+use Prim.Native.Nat.{◌-◌}
+use native.Mathlib.Nat.{le_of_eq}
+use borrow.Author.Rules.{rules}
+use lib.ListN.{length, drop, length-drop}
+use lib.Seq.{length-take-le}
 use Rattle.frames.specs.Part.{most_ports}
-use Rattle.queues.proofs.Partings.{all_together, gone_are, now_long, back_room, joined}
+use Rattle.queues.proofs.Partings.{gone_fit, joined}
 use Rattle.queues.proofs.parting.take_heads.Goals as goal
 
-pub overflow_sub-held : goal.overflow_sub-held
-overflow_sub-held c =
-    let a = c.args in
-    let p = c.part-leavers in
-    omega (arith, all_together most_ports a.sets a.entries.now a.held c.requires.0 p.result p.ensures.0)
+pub slice_bounds-leavers-end : goal.slice_bounds-leavers-end
+slice_bounds-leavers-end c =
+    let p = c.part-kept in
+    gone_fit most_ports c.args.sets c.args.entries.now p.result.0 p.ensures.0 p.new.entries p.ensures.2 p.result.1 c.requires (search rules)
 
-pub offset_bounds-entries-kept : goal.offset_bounds-entries-kept
-offset_bounds-entries-kept c =
-    let a = c.args in
-    let p = c.part-leavers in
-    omega (arith, c.requires.0, all_together most_ports a.sets a.entries.now a.held c.requires.0 p.result p.ensures.0, c.ranges)
+pub slice_bounds-copy_from_slice-end-2 : goal.slice_bounds-copy_from_slice-end-2
+slice_bounds-copy_from_slice-end-2 c =
+    let p = c.part-kept in
+    let few = gone_fit most_ports c.args.sets c.args.entries.now p.result.0 p.ensures.0 p.new.entries p.ensures.2 p.result.1 c.requires (search rules) in
+    sym (length-take-le (length p.new.entries - p.result.0) p.result.1 few)
 
-pub slice_bounds-put_back-count : goal.slice_bounds-put_back-count
-slice_bounds-put_back-count c =
-    let a = c.args in
-    let p = c.part-leavers in
-    omega (arith, c.requires.0, all_together most_ports a.sets a.entries.now a.held c.requires.0 p.result p.ensures.0, now_long most_ports a.sets a.entries.now a.held c.requires.0 p.result p.ensures.0 _ p.ensures.1)
-
-pub slice_bounds-put_back-start : goal.slice_bounds-put_back-start
-slice_bounds-put_back-start c = slice_bounds-put_back-count c
-
-pub put_back-requires : goal.put_back-requires
-put_back-requires c =
-    let a = c.args in
-    let p = c.part-leavers in (
-      omega (arith, c.requires.1, gone_are most_ports a.sets a.entries.now a.held c.requires.0 p.result p.ensures.0),
-      back_room most_ports a.sets a.entries.now a.held c.requires.0 p.result p.ensures.0 _ p.ensures.1,
-    )
+pub copy_from_slice-requires : goal.copy_from_slice-requires
+copy_from_slice-requires c =
+    let p = c.part-kept in
+    let gone = length p.new.entries - p.result.0 in
+    length-take-le gone (drop p.result.0 p.new.entries) (le_of_eq (sym (length-drop p.result.0 p.new.entries)))
+    ∙ sym (length-take-le gone p.result.1 (gone_fit most_ports c.args.sets c.args.entries.now p.result.0 p.ensures.0 p.new.entries p.ensures.2 p.result.1 c.requires (search rules)))
 
 pub returns : goal.returns
 returns c =
-    let a = c.args in
-    let p = c.part-leavers in
-    (p.ensures.0, joined most_ports a.sets a.entries.now a.held c.requires.0 p.result p.ensures.0 _ p.ensures.1 _ c.put_back.ensures)
+    let p = c.part-kept in
+    (p.ensures.0, joined most_ports c.args.sets c.args.entries.now p.result.0 p.ensures.0 p.new.entries p.ensures.2 p.result.1 _ p.ensures.1 c.copy_from_slice.ensures.after)

@@ -1,12 +1,15 @@
 -- `salvages::whole::salvage` meets its contract.
-use Rattle.salvages.proofs.Answers.{no_contents, whole, unsound, few_fates}
+use Rattle.std.proofs.lemmas.Result.{err_from_is_err_and}
+use Rattle.salvages.proofs.Answers.{unsound, few_fates}
 use Rattle.salvages.proofs.whole.salvage.Goals as goal
 
-pub returns-then-head-ne0 : goal.returns-then-head-ne0
-returns-then-head-ne0 c = rw c.declined.ensures (unsound _ _ _ _ (no_contents _ _ _ c.contents_head-head.ensures c.if-head-ne0.true))
+pub returns-in_err-whole : goal.returns-in_err-whole
+returns-in_err-whole c =
+    let p = err_from_is_err_and c.from_residual.result c.from_residual.ensures.1 in
+    rw (p.1, p.2, c.in_err-whole.ensures.0) (unsound _ _ _ _ c.in_err-whole.ensures.1)
 
-pub returns-then-fates-count : goal.returns-then-fates-count
-returns-then-fates-count c = rw c.declined-then-fates-count.ensures (few_fates _ _ _ _ (whole _ _ _ c.contents_head-head.ensures c.if-head-ne0.false) c.if-fates-count.true)
+pub returns-then-fates-whole : goal.returns-then-fates-whole
+returns-then-fates-whole c = few_fates _ _ _ _ (rw c.in_ok-whole.ensures at c.in_ok-whole.whole.whole) c.if-fates-whole.true
 
-pub salvage_whole-requires : goal.salvage_whole-requires
-salvage_whole-requires c = (whole _ _ _ c.contents_head-head.ensures c.if-head-ne0.false, c.if-fates-count.false)
+pub returns : goal.returns
+returns c = rw c.in_ok-whole.ensures at c.salvage.ensures

@@ -1,16 +1,7 @@
-use borrow.Author.Rules.{rules}
 use Rattle.hearing.specs.Heard.{tables}
 use Rattle.shelf.specs.Begun.{begun_of}
 use Rattle.shelf.specs.Told.{told_of}
 use Rattle.shelf.proofs.by_value.begin.Goals as goal
-
-pub listen-told-requires : goal.listen-told-requires
-unfolding begun_of told_of tables
-listen-told-requires c = search rules
-
-pub start-requires : goal.start-requires
-unfolding begun_of told_of tables
-start-requires c = search rules
 
 pub returns : goal.returns
 unfolding begun_of told_of tables

@@ -13,7 +13,7 @@ fields_of-requires c =
 
 pub returns-then-complete : goal.returns-then-complete
 unfolding body_sound
-returns-then-complete c = rw (← c.complete.ensures, c.if-complete.true, c.formed.ensures, c.fields_of.ensures, c.long_intact.ensures)
+returns-then-complete c = rw (← c.complete.ensures, c.if-complete.true, c.formed.ensures, c.fields_of.ensures, c.intact.ensures)
 
 pub returns : goal.returns
 unfolding body_sound

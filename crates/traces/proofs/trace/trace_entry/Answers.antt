@@ -1,14 +1,13 @@
 -- `traces::trace::trace_entry` meets its contract.
 use mathlib.Core.Path.{◌∙◌}
+use Rattle.std.proofs.lemmas.Result.{err_from_is_err_and}
 use Rattle.traces.proofs.TraceLaws.{entry_told, entry_refused}
 use Rattle.traces.proofs.trace.trace_entry.Goals as goal
 
-pub returns-then-head-eq0 : goal.returns-then-head-eq0
-returns-then-head-eq0 c =
-    let a = c.args in
-    c.read_entry.ensures ∙ entry_told _ a.file.now _ c.trace_head-head.ensures a.k c.if-head-eq0.true
+pub returns-in_err-trace_head : goal.returns-in_err-trace_head
+returns-in_err-trace_head c =
+    let p = err_from_is_err_and c.from_residual.result c.from_residual.ensures.1 in
+    rw (p.1, p.2) (entry_refused _ c.args.file.now c.args.k _ c.in_err-trace_head.ensures)
 
 pub returns : goal.returns
-returns c =
-    let a = c.args in
-    entry_refused _ a.file.now _ c.trace_head-head.ensures a.k c.if-head-eq0.false
+returns c = c.read_entry.ensures ∙ entry_told _ c.args.file.now c.args.k _ c.in_ok-trace_head.ensures

@@ -1,30 +1,19 @@
 -- `words::check::intact` meets its contract.
-use mathlib.Core.Path.{sym}
+use mathlib.Core.Path.{◌≡◌, refl, ap, ◌∙◌}
 use native.Mathlib.Omega.{arith}
-use borrow.Author.Rules.{rules}
+use lib.ListN.{length, length-drop}
 use borrow.Author.Tests.{le-leb, lt-leb}
-use lib.Seq.{length-take-le}
 use Rattle.words.specs.Check.{intact}
-use Rattle.words.proofs.LastTwo.{last_two_lem}
+use Rattle.words.proofs.LibraryBytes.{number_two}
 use Rattle.words.proofs.check.intact.Goals as goal
 
-pub returns-then-s-lt2 : goal.returns-then-s-lt2
+pub returns-in-Some : goal.returns-in-Some
 unfolding intact
-returns-then-s-lt2 c = rw (lt-leb _ _ c.if-s-lt2.true)
+returns-in-Some g c =
+    let cut = c.in-Some.ensures.cases in
+    let two : length c.in-Some.check.now ≡ 2 = ap length cut.1 ∙ length-drop _ c.args.s.now ∙ omega (arith, cut.2) in
+    rw (le-leb 2 (length c.args.s.now) (omega (arith, cut.2)), c.from_be_bytes.ensures, number_two c.in-Some.check.now two, c.of.ensures, cut.0, cut.1) refl
 
-pub of_two-requires : goal.of_two-requires
+pub returns-in-None : goal.returns-in-None
 unfolding intact
-of_two-requires c = search rules
-
-pub slice_bounds-crc-end : goal.slice_bounds-crc-end
-slice_bounds-crc-end c = sym (length-take-le _ _ (omega arith))
-
-pub crc-requires : goal.crc-requires
-unfolding intact
-crc-requires c = search rules
-
-pub returns : goal.returns
-unfolding intact
-returns c =
-    let least = c.if-s-lt2.false in
-    rw (c.of_two.ensures, c.crc.ensures, last_two_lem c.args.s.now least, le-leb _ _ least)
+returns-in-None g c = rw (lt-leb 2 _ c.in-None.ensures.cases) refl

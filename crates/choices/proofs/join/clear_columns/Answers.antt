@@ -1,0 +1,11 @@
+use Rattle.laws.proofs.Rows.{rows}
+use Rattle.choices.proofs.join.clear_columns.Goals as goal
+
+pub loop-i-init : goal.loop-i-init
+loop-i-init c = search rows
+
+pub loop-i-preserved : goal.loop-i-preserved
+loop-i-preserved c = search rows
+
+pub returns : goal.returns
+returns c = search rows

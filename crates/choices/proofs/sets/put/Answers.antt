@@ -1,6 +1,0 @@
-use Rattle.laws.proofs.Words.{or_puts}
-use Rattle.frames.specs.Part.{most_ports}
-use Rattle.choices.proofs.sets.put.Goals as goal
-
-pub returns : goal.returns
-returns c = or_puts most_ports c.args.s c.args.k c.requires

@@ -1,7 +1,0 @@
--- `import_steps::laying::is_open` meets its contract.
-use Rattle.import_steps.specs.Laying.{is_open}
-use Rattle.import_steps.proofs.laying.is_open.Goals as goal
-
-pub returns : goal.returns
-unfolding is_open
-returns c = rw (c.slots_sound.ensures, c.ports_sound.ensures)

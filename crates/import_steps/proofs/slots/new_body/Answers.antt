@@ -1,7 +1,0 @@
--- `import_steps::slots::new_body` meets its contract.
-use Rattle.import_steps.specs.Taking.{new_body}
-use Rattle.import_steps.proofs.slots.new_body.Goals as goal
-
-pub returns : goal.returns
-unfolding new_body
-returns c = rw (c.next_slot.ensures, c.same_slot.ensures)

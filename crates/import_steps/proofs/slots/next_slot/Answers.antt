@@ -1,9 +1,0 @@
--- `import_steps::slots::next_slot` meets its contract.
-use Rattle.import_steps.specs.Taking.{next_slot}
-use Rattle.import_steps.proofs.Rooms.{room}
-use Rattle.std.proofs.Common.{rules}
-use Rattle.import_steps.proofs.slots.next_slot.Goals as goal
-
-pub returns : goal.returns
-unfolding next_slot
-returns c = rw (c.slots_sound.ensures, c.wrapping_add_u16-more.ensures.value, room c.args.p.slots _ (search rules), c.wrapping_add_u32-next.ensures.value)

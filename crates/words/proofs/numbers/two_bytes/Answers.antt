@@ -1,8 +1,0 @@
--- `words::numbers::two_bytes` meets its contract.
-use mathlib.Core.Path.{refl}
-use Rattle.laws.specs.Bytes.{big_endian}
-use Rattle.words.proofs.numbers.two_bytes.Goals as goal
-
-pub returns : goal.returns
-unfolding big_endian
-returns c = refl
