@@ -16,7 +16,7 @@ use Rattle.refusals.specs.declared.Refusal.{Refusal}
 use Rattle.laws.proofs.Tests.{in_range}
 use Rattle.words.specs.Check.{crc_bit, crc_byte, crc_from, intact}
 use Rattle.frames.specs.Part.{most_ports}
-use Rattle.trace_parts.specs.Layout.{block_len, body_len, most_mode, most_slots}
+use Rattle.trace_parts.specs.Layout.{most_bodies, block_len, body_len, most_mode, most_slots}
 use Rattle.trace_parts.specs.Body.{fields_of, formed, complete, body_sound, no_fields, read_fields}
 use Rattle.trace_parts.specs.declared.body.Fields.{Fields}
 use Rattle.trace_parts.proofs.Shown.{shown, declined}
@@ -26,6 +26,7 @@ use Rattle.body_fates.specs.contracts.body.Fate.{the_type}
 use Rattle.body_fates.specs.declared.body.Fate.{Fate}
 use Rattle.body_fates.specs.declared.body.Fate.TheVariants.{Kept, Short, Check, Form}
 use Rattle.body_fates.specs.Fate.{is_kept, fate}
+use Rattle.body_fates.specs.Judged.{none_judged}
 
 -- a body of one slot and one port, of this mode, with these check bytes
 abbrev body : ℕ → ℕ → ℕ → List ℕ
@@ -71,3 +72,8 @@ sound_kept m n slots body = go (complete m n slots body) (intact body) (formed n
     go true true false = refl
     go true false c = refl
     go false b c = refl
+
+-- before any body is judged the table of fates says the same at each of its places
+pub none_told : none_judged.fates ≡ replicate most_bodies Kept
+unfolding none_judged
+none_told = refl

@@ -1,14 +1,15 @@
 -- What is known of the first k bodies of a file once they are judged, one after the other.
-use mathlib.Core.Path.{◌≡◌, refl, sym, ◌∙◌}
+use mathlib.Core.Path.{◌≡◌, refl, sym, ap, ◌∙◌}
 use mathlib.Core.Bool.{Bool, true, false, cond}
 use mathlib.Core.List.{List, [], ◌∷◌, ◌++◌, append-nil, append_assoc}
 use Prim.Native.Nat.{ℕ, zero, suc, ◌+◌, ◌≤◌, ◌<◌}
 use native.Mathlib.Numerals.{add-one}
 use native.Mathlib.Omega.{arith}
-use lib.ListN.{length, get_or, take, drop, set, length-set, length-replicate}
+use lib.ListN.{length, get_or, take, drop, set, replicate, length-set, length-replicate}
 use lib.Seq.{drop-cons, set_at, take-suc-set}
 use borrow.Author.Tests.{lt-leb, lt-ltb}
-use Rattle.std.proofs.lemmas.List.{get_or-set_same, get_or-set_other}
+use Rattle.std.proofs.lemmas.Grind.{drop_more_same}
+use Rattle.std.proofs.lemmas.List.{get_or-set_same, get_or-set_other, drop-set-lt}
 use Rattle.laws.proofs.Steps.{upto}
 use Rattle.laws.specs.Steps.{steps}
 use Rattle.trace_parts.specs.Layout.{most_bodies}
@@ -20,6 +21,7 @@ use Rattle.body_fates.specs.declared.judging.Judged.{Judged}
 use Rattle.body_fates.specs.declared.body.Fate.{Fate}
 use Rattle.body_fates.specs.declared.body.Fate.TheVariants.{Kept}
 use Rattle.body_fates.specs.Judged.{none_judged, is_full, noted, entered, judge, fate_of}
+use Rattle.body_fates.proofs.Sound.{none_told}
 use Rattle.salvages.specs.Whole.{judge_at, judged_of}
 use Rattle.salvages.specs.Salvage.{fate_at, kept_firsts, kept_slots}
 use Rattle.salvages.proofs.KeptSound.{kept_exactly}
@@ -28,6 +30,7 @@ pub record Known (m : ℕ) (s : List ℕ) (k : ℕ) (j : Judged) : Type 0 where
   pub bodies_are : j.bodies ≡ k
   pub fates_are : (i : ℕ) → i < k → get_or j.fates i Kept ≡ fate_at m s i
   pub fates_long : length j.fates ≡ most_bodies
+  pub fates_behind : drop k j.fates ≡ drop k (replicate most_bodies Kept)
   pub some : j.kept ≤ k
   pub firsts_are : take j.kept j.firsts ≡ kept_firsts m s k
   pub slots_are : take j.kept j.slots ≡ kept_slots m s k
@@ -55,6 +58,14 @@ module _ (m : ℕ) (s : List ℕ) where
         (λ i l. get_or-set_other j.fates k i (fate_at m s k) Kept (λ e. absurd (omega (arith, e, l))) ∙ known.fates_are i l)
         (get_or-set_same j.fates k (fate_at m s k) Kept (rw known.fates_long room)))
 
+    behind_next : drop (suc k) (set j.fates j.bodies (fate_at m s k)) ≡ drop (suc k) (replicate most_bodies Kept)
+    behind_next =
+        rw known.bodies_are
+        (drop-set-lt (suc k) j.fates k (fate_at m s k) (omega arith)
+        ∙ ap (λ (z : ℕ). drop z j.fates) (sym (add-one k))
+        ∙ drop_more_same j.fates (replicate most_bodies Kept) k known.fates_behind
+        ∙ ap (λ (z : ℕ). drop z (replicate most_bodies Kept)) (add-one k))
+
     next : (b : Bool) → sound_at m s k ≡ b
         → Known m s (suc k) (cond b (entered (entry_of s k).first (entry_of s k).slots (noted (fate_at m s k) j)) (noted (fate_at m s k) j))
     unfolding steps noted entered
@@ -63,6 +74,7 @@ module _ (m : ℕ) (s : List ℕ) where
           bodies_are = rw known.bodies_are (add-one k);
           fates_are = fates_next;
           fates_long = length-set j.fates j.bodies _ ∙ known.fates_long;
+          fates_behind = behind_next;
           some = omega (arith, known.some);
           firsts_are = rw q (row_more (entry_of s k).first j.kept j.firsts _ (omega (arith, known.some, known.firsts_long)) known.firsts_are);
           slots_are = rw q (row_more (entry_of s k).slots j.kept j.slots _ (omega (arith, known.some, known.slots_long)) known.slots_are);
@@ -74,6 +86,7 @@ module _ (m : ℕ) (s : List ℕ) where
           bodies_are = rw known.bodies_are (add-one k);
           fates_are = fates_next;
           fates_long = length-set j.fates j.bodies _ ∙ known.fates_long;
+          fates_behind = behind_next;
           some = omega (arith, known.some);
           firsts_are = rw (q, append-nil) known.firsts_are;
           slots_are = rw (q, append-nil) known.slots_are;
@@ -96,6 +109,7 @@ module _ (m : ℕ) (s : List ℕ) where
         bodies_are = refl;
         fates_are = λ i l. absurd (omega arith);
         fates_long = length-replicate {A = Fate} most_bodies Kept;
+        fates_behind = none_told;
         some = omega arith;
         firsts_are = refl;
         slots_are = refl;
