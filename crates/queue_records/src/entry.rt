@@ -5,6 +5,8 @@ ghost use Rattle.queue_records.specs.Entries.{cell_of, initiator_of, target_of, 
 
 use ports::{Initiator, State, Target};
 
+const MOST: u32 = State::MOST as u32;
+
 // It fits a word.
 #[derive(Clone, Copy)]
 pub struct Entry {
@@ -17,12 +19,12 @@ pub struct Entry {
 impl From<u32> for Entry {
     ghost from_gives = { λ word entry. (entry.cell ≡ cell_of most_ports word) × (entry.initiator.0 ≡ initiator_of most_ports word) × (entry.target.0 ≡ target_of most_ports word) × (entry.initiator.0 < most_ports) × (entry.target.0 < most_ports) };
 
+    // By the word's own width, and each number made wider by itself: tests of many entries are then made four at a time, and not two.
     fn from(word: u32) -> Entry {
-        let word = word as usize;
         Entry {
-            cell: word / (State::MOST * State::MOST),
-            initiator: Initiator(word / State::MOST % State::MOST),
-            target: Target(word % State::MOST),
+            cell: (word / (MOST * MOST)) as usize,
+            initiator: Initiator((word / MOST % MOST) as usize),
+            target: Target((word % MOST) as usize),
         }
     }
 }
