@@ -81,6 +81,8 @@ pub fn start(n: usize, mode: u32, i: usize, j: usize) -> Result<Import, Refusal>
 }
 
 // A record more; its bytes are those of its header and its packet.
+// In line, since it is asked once a record and pass: a call of its own, with an `Import` in and out by memory, made `import` take longer.
+#[inline(always)]
 pub fn take_record(order: ByteOrder, p: Import, bytes: &[u8]) -> Result<Import, Refusal>
     ensures { known_after (known p) result ≡ taken most_ports (low_first order) (known p) bytes.now }
 {
