@@ -98,7 +98,7 @@ impl<R: Files<File = File>> Importing<'_, R> {
         }
     }
 
-    // Contents and bodies. The library doesn't say how a file was closed, so that is asked before.
+    // Contents and bodies. The library doesn't say how a file was closed, so that is asked before; what it refuses is told before a change.
     fn write_trace(
         &self,
         source: Source<'_>,
@@ -119,7 +119,11 @@ impl<R: Files<File = File>> Importing<'_, R> {
         let _ = read_header(source.file);
         let mut to = out;
         to.write_all(&body[..size])?;
-        import_passes::lay(source, self.start, &mut buf, &mut body, out)?;
-        out.sync_all()
+        let same = import_passes::lay(source, self.start, &mut buf, &mut body, out)?;
+        out.sync_all()?;
+        if same {
+            return Ok(());
+        }
+        Err(changed())
     }
 }

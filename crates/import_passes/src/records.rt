@@ -35,22 +35,20 @@ impl Source<'_> {
     }
 
     // Whether the file is at its end; an error where it cannot be read.
-    fn ended(self) -> io::Result<()> {
+    fn ended(self) -> io::Result<bool> {
         let mut from = self.file;
-        if from.read(&mut [0])? == 0 {
-            return Ok(());
-        }
-        Err(changed())
+        Ok(from.read(&mut [0])? == 0)
     }
 
-    // Hands on the records of n ports from here on, piece by piece; the last may be cut. What the system refuses to read is an error.
+    // Hands on the records of n ports from here on, piece by piece; the last may be cut. Whether the file ended behind them; what the system
+    // refuses to read is an error.
     pub(crate) fn each<F: FnMut(&[u8]) -> io::Result<()>>(
         self,
         pass: u64,
         n: usize,
         buf: &mut [u8],
         mut take: F,
-    ) -> io::Result<()>
+    ) -> io::Result<bool>
         requires { F.IsAlwaysCallable take }
     {
         let len = captures::record_len(n);
@@ -68,7 +66,7 @@ impl Source<'_> {
                 return self.ended();
             }
         }
-        Ok(())
+        Ok(true)
     }
 }
 
@@ -82,7 +80,7 @@ pub fn scan(
     slots: &mut [u16],
 ) -> io::Result<Result<Import, Refusal>> {
     let mut known = Ok(start);
-    source.each(1, start.state.ports, buf, |record| {
+    let ended = source.each(1, start.state.ports, buf, |record| {
         let Ok(before) = known else {
             return Ok(());
         };
@@ -92,5 +90,8 @@ pub fn scan(
         }
         Ok(())
     })?;
-    Ok(known)
+    if ended {
+        return Ok(known);
+    }
+    Err(changed())
 }
