@@ -11,6 +11,7 @@ use Rattle.words.proofs.bits.with.Reads as with
 use Rattle.words.proofs.bits.without.Reads as without
 use Rattle.words.proofs.check.crc_bit.Reads as crc-bit
 use Rattle.words.proofs.check.crc.Reads as crc
+use Rattle.words.proofs.check.ByBitsCheck.of.Reads as by-bits
 use Rattle.words.proofs.check.seal.Reads as seal
 use Rattle.words.proofs.check.intact.Reads as intact
 use Rattle.words.proofs.numbers.of_two.Reads as of_two
@@ -53,3 +54,6 @@ intact-once κs g d m l a r s x y p q = the_result p q
 
 pub seal_once : (κs g d m l a r s x y : _) → seal.Learnt κs g d m l a r x → seal.Learnt κs g d m l a s y → x.0.now ≡ y.0.now
 seal_once κs g d m l a r s x y p q = the_result p q
+
+pub by_bits_once : (κs a : _) (r s : ℕ) (x y : _) → by-bits.Learnt κs a r x → by-bits.Learnt κs a s y → r ≡ s
+by_bits_once κs a r s x y p q = the_result p q
